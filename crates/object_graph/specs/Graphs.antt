@@ -1,0 +1,63 @@
+-- Graphs of objects, paths in them, and their changes.
+use Rattle.std.specs.Prelude.{◌≡◌, ℕ, Bool, false, ◌&&◌, ◌==◌, Option, Some, None, List, [], ◌∷◌, IsTrue, find, filter, map, replicate, slice_set, if◌then◌else◌}
+use Rattle.std.specs.List.{list_any}
+use Rattle.object_graph.specs.NameParts.{NameParts}
+use Rattle.object_graph.specs.Names.{name_eq, root_name}
+use Rattle.object_graph.specs.declared.names.Object.{Object}
+
+-- an object as it is made, with so many references
+abbrev pub fresh_object : ℕ → NameParts → Object
+fresh_object fields name = record { name = name; number = 0; refs = replicate fields None }
+
+-- the graph of a fresh store: the root alone
+abbrev pub fresh_graph : List Object
+fresh_graph = fresh_object 4 root_name ∷ []
+
+-- the object of this name
+abbrev pub object_named : List Object → NameParts → Option Object
+object_named graph name = find (λ o. name_eq o.name name) graph
+
+-- the graph has an object of this name
+abbrev pub has_object : List Object → NameParts → Bool
+has_object graph name = list_any (λ o. name_eq o.name name) graph
+
+-- a list of names has this one
+abbrev pub has_name : List NameParts → NameParts → Bool
+has_name names name = list_any (λ n. name_eq n name) names
+
+-- the reference is to this name
+abbrev pub is_to : NameParts → Option NameParts → Bool
+is_to name None = false
+is_to name (Some target) = name_eq target name
+
+-- an object of the first name refers to the second
+abbrev pub refers : List Object → NameParts → NameParts → Bool
+refers graph from to = list_any (λ o. name_eq o.name from && list_any (is_to to) o.refs) graph
+
+-- a path in the graph: each name is one of the graph, and each after the first is a reference of the object before it
+abbrev pub IsPath : List Object → NameParts → List NameParts → NameParts → Type 0
+IsPath graph first [] last = (first ≡ last) × IsTrue (has_object graph first)
+IsPath graph first (next ∷ rest) last = IsTrue (refers graph first next) × IsTrue (has_object graph first) × IsPath graph next rest last
+
+-- the last name is on a path from the first
+abbrev pub Leads : List Object → NameParts → NameParts → Type 0
+Leads graph first last = (rest : List NameParts) × IsPath graph first rest last
+
+-- the name is on a path from one of the starts
+abbrev pub IsReachedFrom : List Object → List NameParts → NameParts → Type 0
+IsReachedFrom graph starts name = (start : NameParts) × IsTrue (has_name starts start) × Leads graph start name
+
+-- the objects at a place
+abbrev pub is_at : ℕ → ℕ → NameParts → Bool
+is_at page slot name = (name.page == page) && (name.slot == slot)
+
+abbrev pub objects_at : List Object → ℕ → ℕ → List Object
+objects_at graph page slot = filter (λ o. is_at page slot o.name) graph
+
+-- an object, with this number if it has this name
+abbrev pub with_number : NameParts → ℕ → Object → Object
+with_number name number o = if name_eq o.name name then record o { number = number } else o
+
+-- an object, with this reference if it has this name
+abbrev pub with_ref : NameParts → ℕ → Option NameParts → Object → Object
+with_ref name field target o = if name_eq o.name name then record o { refs = slice_set o.refs field target } else o

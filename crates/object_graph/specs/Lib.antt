@@ -1,0 +1,5 @@
+pub mod NameParts
+pub mod Names
+pub mod Slots
+pub mod SlotParts
+pub mod Graphs

@@ -1,0 +1,89 @@
+//! Names and objects.
+ghost use Rattle.std.specs.Prelude.{◌≡◌, ℕ, ◌+◌, ◌-◌, ◌*◌, ◌/◌, ◌%◌, ◌^◌, ◌<◌, ◌≤◌, ◌↔◌, IfSome, IsSome};
+ghost use Rattle.object_graph.specs.Names.{number_of, IsName, IsNumberOfName};
+
+use std::marker::Model;
+
+/// A name of an object: a page, a slot of it, and which object of that slot it is, counted from 1
+/// (FORMATS.md, "Names").
+#[derive(Clone, Copy, Debug, PartialEq, Eq, PartialOrd, Ord)]
+pub struct Name {
+    page: u32,
+    slot: u16,
+    generation: u16,
+}
+
+impl Model for Name {
+    ghost use Rattle.object_graph.specs.NameParts.{NameParts, IsName};
+
+    ghost Value = { NameParts };
+
+    ghost view = { λ n. record { page = n.page; slot = n.slot; generation = n.generation } };
+
+    ghost invariant = { λ n. IsName (record { page = n.page; slot = n.slot; generation = n.generation }) };
+
+    ghost inverse = { λ v. record { page = v.page; slot = v.slot; generation = v.generation } };
+}
+
+/// The name of the root, which is made with the store and never freed.
+pub const ROOT: Name = Name {
+    page: 0,
+    slot: 0,
+    generation: 1,
+};
+
+impl Name {
+    /// The name with this number, if it is a name's.
+    pub fn of(number: u64) -> Option<Name>
+        ensures some { IsSome result ↔ IsNumberOfName number }
+        ensures value { IfSome result (λ n. number_of n ≡ number) }
+    {
+        let page = number >> 32;
+        let slot = (number >> 16) & 0xffff;
+        let generation = number & 0xffff;
+        if page < 4096 && slot < 40 && 1 <= generation {
+            Some(Name {
+                page: page as u32,
+                slot: slot as u16,
+                generation: generation as u16,
+            })
+        } else {
+            None
+        }
+    }
+
+    pub fn page(self) -> u32
+        ensures value { result ≡ self.page }
+        ensures bound { result < 4096 }
+    {
+        self.page
+    }
+
+    pub fn slot(self) -> u16
+        ensures value { result ≡ self.slot }
+        ensures bound { result < 40 }
+    {
+        self.slot
+    }
+
+    pub fn generation(self) -> u16
+        ensures value { result ≡ self.generation }
+        ensures bound { 1 ≤ result }
+    {
+        self.generation
+    }
+
+    pub fn to_u64(self) -> u64
+        ensures { result ≡ number_of self }
+    {
+        (self.page as u64) * 0x1_0000_0000 + (self.slot as u64) * 0x1_0000 + self.generation as u64
+    }
+}
+
+/// An object with its fields.
+#[derive(Clone, Copy, Debug, PartialEq, Eq)]
+pub struct Object {
+    pub name: Name,
+    pub number: u64,
+    pub refs: [Option<Name>; 4],
+}

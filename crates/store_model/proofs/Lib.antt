@@ -1,0 +1,11 @@
+pub mod Allowed
+pub mod Images
+pub mod Locks
+pub mod Cuts
+pub mod Changes
+pub mod Histories
+pub mod Members
+pub mod Paths
+pub mod Places
+pub mod Reach
+pub mod Rounds

@@ -1,0 +1,10 @@
+pub mod Worlds
+pub mod Causes
+pub mod Replies
+pub mod Steps
+pub mod Histories
+pub mod Lawful
+pub mod Laws
+pub mod Images
+pub mod Limits
+pub mod Texts

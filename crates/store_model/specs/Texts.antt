@@ -1,0 +1,102 @@
+-- The texts of calls, replies, entries and histories.
+use Rattle.std.specs.Prelude.{ℕ, Option, Some, None, List, [], ◌∷◌, ◌++◌, codes, flat_map, decimal}
+use Rattle.object_graph.specs.NameParts.{NameParts}
+use Rattle.object_graph.specs.Slots.{slots_in}
+use Rattle.object_graph.specs.declared.calls.Call.{Call}
+use Rattle.object_graph.specs.declared.calls.Call.TheVariants.{Begin, Get, Number, Set, Put, New, Commit, Abort, OpenCut, Copy, HandIn, Close, Mark, Sweep, EndCut, DropCut, Reopen}
+use Rattle.object_graph.specs.declared.calls.Reply.{Reply}
+use Rattle.object_graph.specs.declared.calls.Reply.TheVariants.{Done, Ref, Num, Made, Committed, Cut, Freed, Reopened, Refused}
+use Rattle.object_graph.specs.declared.calls.Phase.{Phase}
+use Rattle.object_graph.specs.declared.calls.Phase.TheVariants.{Copying, Closed, Sweeping}
+use Rattle.object_graph.specs.declared.calls.Refusal.{Refusal}
+use Rattle.object_graph.specs.declared.calls.Refusal.TheVariants.{NotOpen, Stranger, BadField, NoPage, Busy, TooWide, KnowsTooMany, PageFull, AlreadyOpen, TooMany, CutThere, NoCut, WrongPhase, AlreadyCopied, Uncopied, OtherCut, AlreadySwept, Unswept, Spent, DiskFault, Broken, NotAStore, Damaged, Memory}
+use Rattle.object_graph.specs.declared.calls.Entry.{Entry}
+use Rattle.store_model.specs.Worlds.{Event}
+
+-- page, slot and generation, parted by points
+abbrev pub name_text : NameParts → List ℕ
+name_text n = decimal n.page ++ (46 ∷ decimal n.slot ++ (46 ∷ decimal n.generation))
+
+abbrev pub ref_text : Option NameParts → List ℕ
+ref_text None = codes "none"
+ref_text (Some name) = name_text name
+
+abbrev pub phase_text : Phase → List ℕ
+phase_text Copying = codes "copying"
+phase_text Closed = codes "closed"
+phase_text Sweeping = codes "sweeping"
+
+-- the slots of a list, each after a space
+abbrev pub slots_text : List ℕ → List ℕ
+slots_text [] = codes " none"
+slots_text (slot ∷ slots) = flat_map (λ s. 32 ∷ decimal s) (slot ∷ slots)
+
+abbrev pub refusal_text : Refusal → List ℕ
+refusal_text NotOpen = codes "not open"
+refusal_text Stranger = codes "stranger"
+refusal_text BadField = codes "bad field"
+refusal_text NoPage = codes "no page"
+refusal_text (Busy holder) = codes "busy " ++ decimal holder
+refusal_text TooWide = codes "too wide"
+refusal_text KnowsTooMany = codes "knows too many"
+refusal_text (PageFull page) = codes "page full " ++ decimal page
+refusal_text AlreadyOpen = codes "already open"
+refusal_text TooMany = codes "too many"
+refusal_text (CutThere number) = codes "cut there " ++ decimal number
+refusal_text NoCut = codes "no cut"
+refusal_text (WrongPhase now) = codes "wrong phase " ++ phase_text now
+refusal_text (AlreadyCopied page) = codes "already copied " ++ decimal page
+refusal_text (Uncopied page) = codes "uncopied " ++ decimal page
+refusal_text (OtherCut now) = codes "other cut " ++ decimal now
+refusal_text (AlreadySwept page) = codes "already swept " ++ decimal page
+refusal_text (Unswept page) = codes "unswept " ++ decimal page
+refusal_text (Spent count) = codes "spent " ++ decimal count
+refusal_text DiskFault = codes "disk fault"
+refusal_text (Broken faults) = codes "broken " ++ decimal faults
+refusal_text NotAStore = codes "not a store"
+refusal_text (Damaged at) = codes "damaged " ++ decimal at
+refusal_text Memory = codes "memory"
+
+abbrev pub reply_text : Reply → List ℕ
+reply_text Done = codes "ok"
+reply_text (Ref target) = codes "ref " ++ ref_text target
+reply_text (Num value) = codes "num " ++ decimal value
+reply_text (Made name) = codes "new " ++ name_text name
+reply_text (Committed commits) = codes "commit " ++ decimal commits
+reply_text (Cut number) = codes "cut " ++ decimal number
+reply_text (Freed slots) = codes "freed" ++ slots_text (slots_in slots)
+reply_text (Reopened commits) = codes "open " ++ decimal commits
+reply_text (Refused why) = refusal_text why
+
+-- a reply's line
+abbrev pub event_text : Event → List ℕ
+event_text e = reply_text e.entry.reply ++ 10 ∷ []
+
+-- what a run writes: the line of each reply
+abbrev pub history_text : List Event → List ℕ
+history_text = flat_map event_text
+
+-- a call's line; a reference is set to none by a word of its own
+abbrev pub call_text : Call → List ℕ
+call_text (Begin txn) = codes "begin " ++ decimal txn
+call_text (Get txn name field) = codes "get " ++ (decimal txn ++ (32 ∷ name_text name ++ (32 ∷ decimal field)))
+call_text (Number txn name) = codes "num " ++ (decimal txn ++ (32 ∷ name_text name))
+call_text (Set txn name field None) = codes "nil " ++ (decimal txn ++ (32 ∷ name_text name ++ (32 ∷ decimal field)))
+call_text (Set txn name field (Some target)) = codes "set " ++ (decimal txn ++ (32 ∷ name_text name ++ (32 ∷ decimal field ++ (32 ∷ name_text target))))
+call_text (Put txn name value) = codes "put " ++ (decimal txn ++ (32 ∷ name_text name ++ (32 ∷ decimal value)))
+call_text (New txn page) = codes "new " ++ (decimal txn ++ (32 ∷ decimal page))
+call_text (Commit txn) = codes "commit " ++ decimal txn
+call_text (Abort txn) = codes "abort " ++ decimal txn
+call_text OpenCut = codes "open"
+call_text (Copy page) = codes "copy " ++ decimal page
+call_text (HandIn page cut seen) = codes "copy " ++ decimal page
+call_text Close = codes "close"
+call_text (Mark workers) = codes "mark " ++ decimal workers
+call_text (Sweep page) = codes "sweep " ++ decimal page
+call_text EndCut = codes "end"
+call_text DropCut = codes "drop"
+call_text Reopen = codes "reopen"
+
+-- an entry's line: lane, call and reply
+abbrev pub entry_text : Entry → List ℕ
+entry_text e = decimal e.lane ++ (32 ∷ call_text e.call ++ (codes ": " ++ reply_text e.reply))

@@ -1,0 +1,148 @@
+-- What the store stands for: one graph that only grows, what was freed, the open transactions and the cut.
+use Rattle.std.specs.Prelude.{ℕ, Bool, not, ◌&&◌, ◌==◌, Option, None, List, [], ◌∷◌, ◌++◌, map, filter, find, unwrap_or, if◌then◌else◌, IsTrue}
+use Rattle.object_graph.specs.NameParts.{NameParts}
+use Rattle.object_graph.specs.Names.{name_eq, root_name}
+use Rattle.object_graph.specs.declared.names.Object.{Object}
+use Rattle.object_graph.specs.declared.calls.Phase.{Phase}
+use Rattle.object_graph.specs.declared.calls.Entry.{Entry}
+use Rattle.store_model.specs.Limits.{most_open}
+use Rattle.object_graph.specs.Graphs.{fresh_object, fresh_graph, with_number, with_ref, has_name, has_object, IsReachedFrom}
+
+-- a write of an open transaction
+pub data Write : Type 0 where
+  link : NameParts → ℕ → Option NameParts → Write
+  assign : NameParts → ℕ → Write
+
+-- an open transaction. The newest write stands first
+pub record Transaction : Type 0 where
+  pub number : ℕ
+  pub known : List NameParts
+  pub own : List NameParts
+  pub writes : List Write
+  pub pages_read : List ℕ
+  pub pages_written : List ℕ
+
+-- what was committed as the cut opened: the graph, what was freed, and where paths start
+pub record Opening : Type 0 where
+  pub graph : List Object
+  pub freed : List NameParts
+  pub starts : List NameParts
+
+pub record OpenedCut : Type 0 where
+  pub number : ℕ
+  pub phase : Phase
+  pub copied : List ℕ
+  pub swept : List ℕ
+  pub opening : Opening
+
+-- what a disk fault may have left done
+pub data Doubt : Type 0 where
+  no_doubt : Doubt
+  commit_in_doubt : ℕ → Doubt
+  sweep_in_doubt : ℕ → Doubt
+
+-- the store: its pages, how many transactions may be open at once, and what changes with its calls
+pub record World : Type 0 where
+  pub pages : ℕ
+  pub open_limit : ℕ
+  pub graph : List Object
+  pub commits : ℕ
+  pub freed : List NameParts
+  pub last_cut : ℕ
+  pub transactions : List Transaction
+  pub cut : Option OpenedCut
+  pub broken : Option ℕ
+  pub doubt : Doubt
+
+-- what an event leaves open without it
+pub data Note : Type 0 where
+  nothing : Note
+  faults : ℕ → Note
+  images : Note
+  marks : Option ℕ → Note
+  found : List NameParts → Note
+
+pub record Event : Type 0 where
+  pub entry : Entry
+  pub note : Note
+
+-- the number of slots of a page
+abbrev pub slots_of : World → ℕ → ℕ
+slots_of w page = 20
+
+-- the number of references of an object on a page
+abbrev pub fields_of : World → ℕ → ℕ
+fields_of w page = 4
+
+-- where the paths to what is reached start
+abbrev pub starts : World → List NameParts
+starts w = root_name ∷ []
+
+-- an object as it is made
+abbrev pub new_object : World → NameParts → Object
+new_object w name = fresh_object (fields_of w name.page) name
+
+-- a transaction as it begins
+abbrev pub fresh_transaction : ℕ → Transaction
+fresh_transaction number = record { number = number; known = root_name ∷ []; own = []; writes = []; pages_read = []; pages_written = [] }
+
+-- the world of a fresh store
+abbrev pub fresh_world : ℕ → World
+fresh_world pages = record {
+  pages = pages;
+  open_limit = most_open;
+  graph = fresh_graph;
+  commits = 0;
+  freed = [];
+  last_cut = 0;
+  transactions = [];
+  cut = None;
+  broken = None;
+  doubt = no_doubt;
+}
+
+-- the open transaction of this number
+abbrev pub find_transaction : World → ℕ → Option Transaction
+find_transaction w number = find (λ t. t.number == number) w.transactions
+
+-- the same, where it is open
+abbrev pub transaction : World → ℕ → Transaction
+transaction w number = unwrap_or (find_transaction w number) (fresh_transaction number)
+
+abbrev pub is_freed : World → NameParts → Bool
+is_freed w name = has_name w.freed name
+
+-- the unfreed objects of the graph
+abbrev pub unfreed : World → List Object
+unfreed w = filter (λ o. not (is_freed w o.name)) w.graph
+
+-- an object after a write
+abbrev pub written_by : Write → Object → Object
+written_by (link name field target) o = with_ref name field target o
+written_by (assign name value) o = with_number name value o
+
+-- an object with writes laid over it, of which the newest stands first
+abbrev pub with_writes : List Write → Object → Object
+with_writes [] o = o
+with_writes (write ∷ writes) o = written_by write (with_writes writes o)
+
+-- what a transaction sees: the graph with its own objects added and its own writes laid over
+abbrev pub view : World → Transaction → List Object
+view w t = map (with_writes t.writes) (w.graph ++ map (new_object w) t.own)
+
+-- the names that are reached
+abbrev pub IsReached : World → NameParts → Type 0
+IsReached w name = IsReachedFrom w.graph (starts w) name
+
+-- the names that a transaction holds
+abbrev pub IsHeldBy : World → Transaction → NameParts → Type 0
+IsHeldBy w t name = IsReachedFrom (view w t) t.known name
+
+-- the names that were unfreed as the cut opened
+abbrev pub is_old : OpenedCut → NameParts → Bool
+is_old cut name = has_object cut.opening.graph name && not (has_name cut.opening.freed name)
+
+-- the names that were unfreed and out of reach as the cut opened
+pub record IsLost (cut : OpenedCut) (name : NameParts) : Type 0 where
+  pub old : IsTrue (is_old cut name)
+  pub unreached : ¬ IsReachedFrom cut.opening.graph cut.opening.starts name
