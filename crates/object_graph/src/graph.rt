@@ -87,11 +87,12 @@ impl Graph {
         put_ref(&mut self.objects, name, field, &target);
     }
 
-    /// No two objects have one name.
-    pub fn has_each_name_once(&self)
-        ensures { HasEachNameOnce self.now }
+    /// The objects, oldest first.
+    pub fn objects(&self) -> &[Object]
+        ensures list { result.now ≡ self.now }
+        ensures once { HasEachNameOnce self.now }
     {
-        let _ = &self.objects;
+        &self.objects
     }
 }
 

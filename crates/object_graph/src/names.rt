@@ -60,6 +60,15 @@ impl Name {
         }
     }
 
+    /// This name once more. Each name has the bounds of a name.
+    pub fn copy(&self) -> Name
+        ensures same { result ≡ self.now }
+        ensures bounds { IsName result }
+    {
+        let _ = &self.page;
+        *self
+    }
+
     /// The name of these parts.
     pub fn at(page: u32, slot: u16, generation: u16) -> Name
         requires page { page < 4096 }
