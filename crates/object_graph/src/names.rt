@@ -119,8 +119,7 @@ pub fn names_and_numbers_are_one_to_one()
     ensures apart { (m n : NameParts) → IsName m → IsName n → number_of m ≡ number_of n → m ≡ n }
     ensures to { (n : NameParts) → IsName n → IsNumberOfName (number_of n) }
     ensures from { (k : ℕ) → IsNumberOfName k → (n : NameParts) × IsName n × (number_of n ≡ k) }
-{
-}
+{}
 
 /// An object with its fields.
 #[derive(Clone, Copy, Debug, PartialEq, Eq)]

@@ -89,5 +89,4 @@ impl SlotSet {
 /// Two sets with the same slots are one set.
 pub fn sets_are_their_slots()
     ensures { (a b : ℕ) → a < 2 ^ 40 → b < 2 ^ 40 → ((s : ℕ) → s < 40 → has_slot a s ≡ has_slot b s) → a ≡ b }
-{
-}
+{}
