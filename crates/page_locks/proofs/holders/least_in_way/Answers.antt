@@ -1,4 +1,4 @@
-use Rattle.std.proofs.Common.{◌≡◌, sym, subst, ◌∙◌, Option, Some, ℕ, take, ◌+◌, true, false}
+use Rattle.std.proofs.Common.{sym, subst, ◌∙◌, Option, ℕ, take, ◌+◌, true, false}
 use Rattle.page_locks.specs.Holding.{is_in_way, IsLeast}
 use Rattle.page_locks.proofs.Any.{IsLeastSoFar, way_step, one_more, not_one_more}
 use Rattle.page_locks.proofs.holders.least_in_way.Goals as goal

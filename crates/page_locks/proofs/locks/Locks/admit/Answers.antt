@@ -1,5 +1,5 @@
-use Rattle.std.proofs.Common.{◌≡◌, arith}
-use Rattle.page_locks.proofs.Any.{admits, numbers-append}
+use Rattle.std.proofs.Common.{arith}
+use Rattle.page_locks.proofs.Any.{admits}
 use Rattle.page_locks.specs.Holding.{KeepsApart}
 use Rattle.page_locks.proofs.Apart.{apart_same}
 use Rattle.page_locks.proofs.locks.Locks.admit.Goals as goal

@@ -1,4 +1,4 @@
-use Rattle.std.proofs.Common.{◌≡◌, List, sym, subst, ap, ◌∙◌, filter, not, ◌==◌, arith}
+use Rattle.std.proofs.Common.{List, sym, subst, filter, not, ◌==◌, arith}
 use Rattle.page_locks.specs.Holding.{LockTable, KeepsApart, Releases}
 use Rattle.page_locks.specs.declared.locks.Held.{Held}
 use Rattle.page_locks.proofs.Any.{releases}

@@ -1,4 +1,4 @@
-use Rattle.std.proofs.Common.{◌≡◌, ◌++◌, List, take, drop, length, false, true, sym, subst, arith}
+use Rattle.std.proofs.Common.{◌≡◌, ◌++◌, List, take, drop, length, false, sym, subst, arith}
 use Rattle.std.proofs.lemmas.Grind.{common_steps}
 use Rattle.page_locks.specs.Holding.{LockTable, KeepsApart, IsNobody, is_in_way, AddsShared}
 use Rattle.page_locks.specs.declared.locks.Held.{Held}
