@@ -8,3 +8,4 @@ pub mod Laws
 pub mod Images
 pub mod Limits
 pub mod Texts
+pub mod Members

@@ -10,7 +10,7 @@ use Rattle.object_graph.specs.declared.calls.Reply.TheVariants.{Done, Ref, Num, 
 use Rattle.object_graph.specs.declared.calls.Refusal.{Refusal}
 use Rattle.object_graph.specs.declared.calls.Refusal.TheVariants.{DiskFault, Memory}
 use Rattle.object_graph.specs.Graphs.{has_name, objects_at}
-use Rattle.store_model.specs.Worlds.{World, OpenedCut, Doubt, no_doubt, commit_in_doubt, sweep_in_doubt, Note, nothing, faults, images, marks, found, Event, is_freed, unfreed, is_old, IsReached, IsHeldBy, IsLost}
+use Rattle.store_model.specs.Worlds.{World, Opening, Doubt, no_doubt, commit_in_doubt, sweep_in_doubt, Note, nothing, faults, images, marks, found, Event, is_freed, is_unfreed, unfreed, is_old, IsReached, IsHeldBy, IsLost}
 use Rattle.store_model.specs.Causes.{first_refusal, field_seen, number_seen, new_name}
 
 -- the names that go where these slots of a page are freed
@@ -18,20 +18,20 @@ abbrev pub names_in : World → ℕ → ℕ → List NameParts
 names_in w page slots = map (λ o. o.name) (filter (λ o. (o.name.page == page) && has_slot slots o.name.slot) (unfreed w))
 
 -- the name was there as the cut opened, and nothing leads to it now
-pub record IsGarbage (w : World) (cut : OpenedCut) (name : NameParts) : Type 0 where
-  pub old : IsTrue (is_old cut name)
+pub record IsGarbage (w : World) (opening : Opening) (name : NameParts) : Type 0 where
+  pub old : IsTrue (is_old opening name)
   pub unreached : ¬ IsReached w name
   pub unheld : AllByRecursion (λ t. ¬ IsHeldBy w t name) w.transactions
 
 -- a sweep of the page may free this set of slots
-pub record MayFree (w : World) (cut : OpenedCut) (page slots : ℕ) : Type 0 where
-  pub one_each : IsTrue (list_all (λ slot. length (filter (λ o. not (is_freed w o.name)) (objects_at w.graph page slot)) == 1) (slots_in slots))
-  pub safe : AllByRecursion (IsGarbage w cut) (names_in w page slots)
-  pub complete : (name : NameParts) → IsLost cut name → name.page ≡ page → IsTrue (not (is_freed w name)) → IsTrue (has_name (names_in w page slots) name)
+pub record MayFree (w : World) (opening : Opening) (page slots : ℕ) : Type 0 where
+  pub one_each : IsTrue (list_all (λ slot. length (filter (is_unfreed w.freed) (objects_at w.graph page slot)) == 1) (slots_in slots))
+  pub safe : AllByRecursion (IsGarbage w opening) (names_in w page slots)
+  pub complete : (name : NameParts) → IsLost opening name → name.page ≡ page → IsTrue (not (is_freed w name)) → IsTrue (has_name (names_in w page slots) name)
 
 -- with no cut nothing may be freed
 abbrev pub MayFreeNow : World → ℕ → ℕ → Type 0
-MayFreeNow w page slots = MatchOption w.cut ⊥ (λ cut. MayFree w cut page slots)
+MayFreeNow w page slots = MatchOption w.cut ⊥ (λ cut. MayFree w cut.opening page slots)
 
 -- the names found freed after a reopening
 abbrev pub found_in : Note → List NameParts

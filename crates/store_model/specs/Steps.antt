@@ -36,7 +36,7 @@ abbrev pub writes : Write → ℕ → Transaction → Transaction
 writes write page t = record t { writes = write ∷ t.writes; pages_written = with_page page t.pages_written }
 
 abbrev pub makes : NameParts → Transaction → Transaction
-makes name t = record t { own = name ∷ t.own; known = with_name name t.known; pages_written = with_page name.page t.pages_written }
+makes name t = record t { own = t.own ++ name ∷ []; known = with_name name t.known; pages_written = with_page name.page t.pages_written }
 
 -- the open transactions without one
 abbrev pub without : World → ℕ → List Transaction

@@ -13,7 +13,7 @@ pub data Write : Type 0 where
   link : NameParts → ℕ → Option NameParts → Write
   assign : NameParts → ℕ → Write
 
--- an open transaction. The newest write stands first
+-- an open transaction. Its own objects stand oldest first, its writes newest first
 pub record Transaction : Type 0 where
   pub number : ℕ
   pub known : List NameParts
@@ -113,8 +113,11 @@ abbrev pub is_freed : World → NameParts → Bool
 is_freed w name = has_name w.freed name
 
 -- the unfreed objects of the graph
+abbrev pub is_unfreed : List NameParts → Object → Bool
+is_unfreed freed o = not (has_name freed o.name)
+
 abbrev pub unfreed : World → List Object
-unfreed w = filter (λ o. not (is_freed w o.name)) w.graph
+unfreed w = filter (is_unfreed w.freed) w.graph
 
 -- an object after a write
 abbrev pub written_by : Write → Object → Object
@@ -139,10 +142,10 @@ abbrev pub IsHeldBy : World → Transaction → NameParts → Type 0
 IsHeldBy w t name = IsReachedFrom (view w t) t.known name
 
 -- the names that were unfreed as the cut opened
-abbrev pub is_old : OpenedCut → NameParts → Bool
-is_old cut name = has_object cut.opening.graph name && not (has_name cut.opening.freed name)
+abbrev pub is_old : Opening → NameParts → Bool
+is_old opening name = has_object opening.graph name && not (has_name opening.freed name)
 
 -- the names that were unfreed and out of reach as the cut opened
-pub record IsLost (cut : OpenedCut) (name : NameParts) : Type 0 where
-  pub old : IsTrue (is_old cut name)
-  pub unreached : ¬ IsReachedFrom cut.opening.graph cut.opening.starts name
+pub record IsLost (opening : Opening) (name : NameParts) : Type 0 where
+  pub old : IsTrue (is_old opening name)
+  pub unreached : ¬ IsReachedFrom opening.graph opening.starts name
