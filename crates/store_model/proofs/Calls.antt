@@ -1,31 +1,29 @@
 -- The calls of a transaction, one by one.
-use Rattle.std.proofs.Common.{◌≡◌, ◌≢◌, ℕ, zero, suc, ◌+◌, ◌<◌, ◌≤◌, ◌==◌, Bool, true, false, not, ◌&&◌, ◌||◌, cond, List, [], ◌∷◌, ◌++◌, map, length, Option, Some, None, append-nil, refl, sym, subst, ap, ◌∙◌, ◌⊎◌, inl, inr, arith, ltb}
+use Rattle.std.proofs.Common.{◌≡◌, ◌≢◌, ℕ, ◌+◌, ◌<◌, ◌==◌, Bool, true, false, not, ◌&&◌, ◌||◌, cond, List, [], ◌∷◌, ◌++◌, length, Option, Some, None, append-nil, refl, sym, subst, ap, ◌∙◌, inl, inr, arith, ltb}
 use borrow.Author.Tests.{ltb-true}
-use Rattle.std.specs.List.{list_any, find, filter, AllByRecursion}
+use Rattle.std.specs.List.{list_any, filter, AllByRecursion}
 use Rattle.std.specs.Bool.{IsTrue}
-use Rattle.std.specs.Option.{is_none, is_some, unwrap_or, option_map}
-use Rattle.std.proofs.lemmas.Bool.{and_parts, and_from, or_cases, cases_Bool, cases_eq, eqb-true, eq-eqb, not-true, not-false}
+use Rattle.std.specs.Option.{option_map}
+use Rattle.std.proofs.lemmas.Bool.{and_parts, and_from, or_cases, cases_Bool, eqb-true, not-true, not-false}
 use Rattle.std.proofs.lemmas.List.Elements.{filter-append}
 use Rattle.object_graph.specs.NameParts.{NameParts}
-use Rattle.object_graph.specs.Names.{name_eq, root_name}
 use Rattle.object_graph.specs.declared.names.Object.{Object}
-use Rattle.object_graph.specs.declared.calls.Call.TheVariants.{Begin, Get, Number, Set, Put, New, Abort}
-use Rattle.object_graph.specs.declared.calls.Refusal.{Refusal}
-use Rattle.object_graph.specs.Graphs.{has_name, has_object, is_at, objects_at}
+use Rattle.object_graph.specs.declared.calls.Call.TheVariants.{Get, Number, Set, Put, New}
+use Rattle.object_graph.specs.Graphs.{has_name, is_at, objects_at}
 use Rattle.object_graph.specs.Slots.{below}
-use Rattle.store_model.specs.Worlds.{World, Transaction, Note, Write, link, assign, slots_of, starts, is_freed, is_unfreed, find_transaction, transaction, fresh_transaction}
-use Rattle.store_model.specs.Causes.{has_page, first_met, first_refusal, when, causes, not_open, stranger, strange_target, no_page, busy_to_read, busy_to_write, field_seen, holder, is_occupied, free_slot, name_at, new_name}
+use Rattle.store_model.specs.Worlds.{World, Transaction, Note, Write, link, assign, slots_of, starts, is_unfreed, transaction}
+use Rattle.store_model.specs.Causes.{has_page, first_refusal, causes, not_open, stranger, strange_target, busy_to_read, busy_to_write, field_seen, holder, is_occupied, free_slot, name_at, new_name}
 use Rattle.store_model.specs.Limits.{last_generation}
-use Rattle.store_model.specs.Steps.{with_page, with_name, with_target, with_transaction, with_new, reads_page, writes, makes, without}
-use Rattle.store_model.specs.Lawful.{IsOwn, IsKnownWrite, IsCovered, IsLawfulTransaction, IsApart, AreApart}
-use Rattle.store_model.proofs.Members.{In, in_append, append_left, append_right, any_in, in_any, in_filter, filter_in, in_map, each_in, each_from, or_left, or_right}
-use Rattle.store_model.proofs.Paths.{name_eq_refl, name_eq_same, has_name_in, in_has_name}
+use Rattle.store_model.specs.Steps.{with_page, with_name, with_target, with_transaction, with_new, reads_page, writes, makes}
+use Rattle.store_model.specs.Lawful.{IsOwn, IsKnownWrite, IsCovered, IsLawfulTransaction, IsApart}
+use Rattle.store_model.proofs.Members.{In, in_append, append_left, append_right, each_in, each_from, or_left, or_right}
+use Rattle.store_model.proofs.Paths.{has_name_in, in_has_name}
 use Rattle.store_model.proofs.Cuts.{below_bound}
-use Rattle.store_model.proofs.Allowed.{first_met_none, when_none, mapped_none, nobody_holds, with_page_cases}
+use Rattle.store_model.proofs.Allowed.{when_none, mapped_none, nobody_holds, with_page_cases}
 use Rattle.store_model.specs.Lawful.{IsOrderly}
 use Rattle.store_model.proofs.Lists.{find_in}
 use Rattle.store_model.proofs.Opened.{nones, is_open, open_in, number_of_open}
-use Rattle.store_model.proofs.Lists.{all_map, two_in, filter_filter, find_none_filter, find_passes, any_false_filter, with_page_has, with_page_keeps, with_name_keeps, in_with_name, in_changed, apart_at, apart_from}
+use Rattle.store_model.proofs.Lists.{find_passes, any_false_filter, with_page_has, with_page_keeps, with_name_keeps, in_with_name, apart_at}
 use Rattle.store_model.proofs.Grown.{Grew, grew_own, grew_covered, grew_all_known, grew_all_own, grew_all_writes, field_target}
 use Rattle.store_model.proofs.Orders.{IsPlacedName, lawful_one, placed_one, IsLawfulChange, change_is_orderly}
 

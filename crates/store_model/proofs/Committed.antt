@@ -1,20 +1,20 @@
 -- A commit leaves the world orderly.
-use Rattle.std.proofs.Common.{◌≡◌, ◌≢◌, ℕ, zero, suc, ◌+◌, ◌<◌, ◌≤◌, ◌==◌, Bool, true, false, not, ◌&&◌, ◌||◌, cond, List, [], ◌∷◌, ◌++◌, map, length, Option, Some, None, refl, sym, subst, ap, ◌∙◌, ◌⊎◌, inl, inr, arith, length-append, append-nil}
-use Rattle.std.specs.List.{list_any, find, filter, AllByRecursion}
+use Rattle.std.proofs.Common.{◌≡◌, ◌≢◌, ℕ, ◌+◌, ◌<◌, ◌==◌, true, false, not, List, [], ◌∷◌, ◌++◌, map, length, refl, sym, subst, ap, ◌∙◌, inl, inr, arith, length-append, append-nil}
+use Rattle.std.specs.List.{list_any, filter, AllByRecursion}
 use Rattle.std.specs.Bool.{IsTrue}
-use Rattle.std.proofs.lemmas.Bool.{and_parts, and_from, or_cases, cases_Bool, eqb-true, eq-eqb, not-true, not-false}
+use Rattle.std.proofs.lemmas.Bool.{and_parts, and_from, cases_Bool, eqb-true, eq-eqb, not-true}
 use Rattle.std.proofs.lemmas.List.{length-map}
 use Rattle.std.proofs.lemmas.List.Elements.{filter-append}
 use Rattle.object_graph.specs.NameParts.{NameParts}
-use Rattle.object_graph.specs.Names.{name_eq, root_name}
+use Rattle.object_graph.specs.Names.{root_name}
 use Rattle.object_graph.specs.declared.names.Object.{Object}
-use Rattle.object_graph.specs.Graphs.{has_name, has_object, is_at, objects_at, refers, IsPath, IsReachedFrom}
-use Rattle.store_model.specs.Worlds.{World, Transaction, starts, view, is_freed, unfreed, with_writes, new_object, transaction, fresh_transaction, IsReached}
-use Rattle.store_model.specs.Causes.{has_page, name_at}
+use Rattle.object_graph.specs.Graphs.{has_name, has_object, is_at, objects_at, IsPath}
+use Rattle.store_model.specs.Worlds.{World, Transaction, starts, view, is_freed, unfreed, with_writes, new_object, transaction}
+use Rattle.store_model.specs.Causes.{has_page}
 use Rattle.store_model.specs.Steps.{without, committed}
-use Rattle.store_model.specs.Lawful.{IsOwn, IsKnownWrite, IsCovered, IsCoveredPath, IsLawfulTransaction, IsApart, AreApart}
-use Rattle.store_model.proofs.Members.{In, any_in, in_any, in_filter, filter_in, in_map, map_in, each_in, each_from, append_right, or_left, or_right}
-use Rattle.store_model.proofs.Paths.{name_eq_refl, has_name_in, in_has_name, in_has_object}
+use Rattle.store_model.specs.Lawful.{IsOwn, IsCovered, IsLawfulTransaction, IsApart, AreApart}
+use Rattle.store_model.proofs.Members.{In, any_in, in_filter, filter_in, map_in, each_in, each_from, append_right, or_right}
+use Rattle.store_model.proofs.Paths.{has_name_in, in_has_object}
 use Rattle.store_model.proofs.Places.{filter_of_map, commit_counts_up}
 use Rattle.store_model.proofs.Locks.{name_in_view, commit_keeps_covered}
 use Rattle.store_model.proofs.Images.{objects_away, none_new}

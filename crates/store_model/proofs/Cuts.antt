@@ -1,19 +1,18 @@
 -- What was out of reach stays so.
-use Rattle.std.proofs.Common.{◌≡◌, ℕ, zero, suc, ◌+◌, ◌<◌, true, false, ◌&&◌, ◌==◌, not, List, [], ◌∷◌, map, length, Some, refl, sym, subst, ap, ◌∙◌, ◌⊎◌, inl, inr, arith}
+use Rattle.std.proofs.Common.{◌≡◌, ℕ, zero, suc, ◌+◌, ◌<◌, true, false, ◌&&◌, ◌==◌, List, [], ◌∷◌, map, length, Some, refl, sym, subst, ap, ◌∙◌, ◌⊎◌, inl, inr, arith}
 use Rattle.std.specs.List.{list_any}
 use Rattle.std.proofs.lemmas.Bool.{and_parts, and_from, cases_Bool, eq-eqb}
 use Rattle.object_graph.specs.NameParts.{NameParts}
 use Rattle.object_graph.specs.Names.{name_eq}
 use Rattle.object_graph.specs.declared.names.Object.{Object}
-use Rattle.object_graph.specs.Graphs.{has_object, has_name, is_to, is_at, refers, objects_at, IsReachedFrom}
+use Rattle.object_graph.specs.Graphs.{has_object, is_to, is_at, refers, objects_at, IsReachedFrom}
 use Rattle.object_graph.specs.Slots.{below}
-use Rattle.store_model.specs.Worlds.{World, Transaction, OpenedCut, starts, view, is_freed, is_old, IsReached, IsHeldBy, IsLost, new_object, with_writes, fields_of}
+use Rattle.store_model.specs.Worlds.{World, Transaction, starts, view, IsReached, new_object, with_writes, fields_of}
 use Rattle.store_model.specs.Causes.{name_at}
-use Rattle.store_model.specs.Steps.{opening_of}
 use Rattle.store_model.specs.Lawful.{IsKnownWrite, IsOwn, IsLawfulTransaction, CountsUp, generations_at}
-use Rattle.store_model.proofs.Members.{In, any_in, in_any, filter_in, in_map, map_in, in_append, each_in, each_from}
-use Rattle.store_model.proofs.Paths.{has_name_in, has_object_in, reached_more, is_to_same, name_eq_same, name_eq_refl}
-use Rattle.store_model.proofs.Reach.{IsSafeView, IsOwnOrReached, held_is_reached_or_own, commit_adds_own, view_object, name-with_writes, refs-with_writes, known_name, target_known, none_only}
+use Rattle.store_model.proofs.Members.{In, any_in, in_any, filter_in, in_map, map_in, in_append, each_in}
+use Rattle.store_model.proofs.Paths.{has_name_in, has_object_in, is_to_same, name_eq_same, name_eq_refl}
+use Rattle.store_model.proofs.Reach.{IsSafeView, IsOwnOrReached, commit_adds_own, view_object, name-with_writes, refs-with_writes, known_name, target_known, none_only}
 
 pub below_bound : (n j : ℕ) → In j (below n) → j < n
 below_bound zero j m = absurd m

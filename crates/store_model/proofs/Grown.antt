@@ -1,18 +1,18 @@
 -- A transaction that grew keeps what it had.
-use Rattle.std.proofs.Common.{◌≡◌, ℕ, Bool, true, false, not, ◌&&◌, ◌||◌, ◌==◌, List, [], ◌∷◌, ◌++◌, length, Option, Some, None, refl, sym, subst, ap, ◌∙◌, ◌⊎◌, inl, inr}
-use Rattle.std.specs.List.{list_any, find, filter, slice_get, AllByRecursion}
+use Rattle.std.proofs.Common.{◌≡◌, ℕ, true, ◌&&◌, ◌||◌, List, [], ◌∷◌, ◌++◌, Option, Some, None, refl, sym, subst, ap, ◌∙◌, inl, inr}
+use Rattle.std.specs.List.{list_any, slice_get, AllByRecursion}
 use Rattle.std.specs.Option.{unwrap_or, option_and_then}
 use Rattle.std.proofs.lemmas.Bool.{and_parts, and_from, or_cases}
 use Rattle.object_graph.specs.NameParts.{NameParts}
 use Rattle.object_graph.specs.Names.{name_eq}
 use Rattle.object_graph.specs.declared.names.Object.{Object}
-use Rattle.object_graph.specs.Graphs.{has_name, has_object, object_named, is_to, is_at, refers}
+use Rattle.object_graph.specs.Graphs.{has_name, has_object, object_named, is_to, refers}
 use Rattle.store_model.specs.Worlds.{World, Transaction, Write, link, assign, starts, transaction, view, with_writes, new_object, fields_of}
 use Rattle.store_model.specs.Causes.{has_page, field_seen}
 use Rattle.store_model.specs.Lawful.{IsOwn, IsKnownWrite, IsCovered, IsCoveredPath, IsLawfulTransaction}
-use Rattle.store_model.proofs.Members.{In, in_any, each_in, each_from, or_left, or_right}
-use Rattle.store_model.proofs.Paths.{name_eq_refl, name_eq_same, has_name_in, in_has_name, in_has_object}
-use Rattle.store_model.proofs.Reach.{name-with_writes, refs-with_writes, none_only, view_object, covered, target_known, IsSafeView}
+use Rattle.store_model.proofs.Members.{In, in_any, each_in, or_left, or_right}
+use Rattle.store_model.proofs.Paths.{name_eq_refl, name_eq_same, has_name_in, in_has_object}
+use Rattle.store_model.proofs.Reach.{name-with_writes, refs-with_writes, none_only, view_object, covered, target_known}
 use Rattle.store_model.specs.Lawful.{IsOrderly}
 use Rattle.store_model.proofs.OutOfReach.{safe_one}
 use Rattle.store_model.proofs.Lists.{find_in}

@@ -1,11 +1,11 @@
 -- What a commit leaves of the images of pages.
-use Rattle.std.proofs.Common.{◌≡◌, ℕ, Bool, true, false, ◌==◌, not, cond, List, [], ◌∷◌, ◌++◌, map, length, None, refl, sym, subst, ap, ◌∙◌, inl, inr, append-nil}
+use Rattle.std.proofs.Common.{◌≡◌, ℕ, Bool, true, false, ◌==◌, cond, List, [], ◌∷◌, ◌++◌, map, length, refl, sym, subst, ap, ◌∙◌, inl, inr, append-nil}
 use Rattle.std.specs.List.{filter, AllByRecursion}
 use Rattle.std.proofs.lemmas.Bool.{and_parts, cases_Bool, eqb-true}
 use Rattle.std.proofs.lemmas.List.Elements.{filter-append}
 use Rattle.object_graph.specs.NameParts.{NameParts}
 use Rattle.object_graph.specs.declared.names.Object.{Object}
-use Rattle.object_graph.specs.Graphs.{is_at, objects_at, has_name}
+use Rattle.object_graph.specs.Graphs.{is_at, objects_at}
 use Rattle.store_model.specs.Worlds.{World, Transaction, view, with_writes, new_object, is_unfreed}
 use Rattle.store_model.specs.Images.{shown_slot, slot_with}
 use Rattle.store_model.specs.Causes.{has_page}

@@ -1,10 +1,8 @@
 -- What each event leaves of the graph, of what is freed, and of a cut's opening.
-use Rattle.std.proofs.Common.{◌≡◌, ℕ, zero, suc, ◌+◌, ◌==◌, Bool, true, false, not, ◌&&◌, cond, List, [], ◌∷◌, ◌++◌, length, get_or, replicate, Option, Some, None, refl, sym, subst, ap, ◌∙◌, ◌⊎◌, inl, inr}
-use Rattle.std.specs.List.{find, filter, AllByRecursion}
-use Rattle.std.specs.Bool.{IsTrue}
+use Rattle.std.proofs.Common.{◌≡◌, ℕ, ◌==◌, Bool, true, false, not, ◌&&◌, cond, List, [], ◌++◌, Option, Some, None, refl, sym, subst, ap, inl, inr}
+use Rattle.std.specs.List.{filter}
 use Rattle.std.specs.Option.{unwrap_or}
 use Rattle.std.proofs.lemmas.Bool.{and_parts, and_from, cases_Bool, eqb-true, not-true}
-use Rattle.std.proofs.lemmas.Nat.Bits.{bit_at-zero}
 use Rattle.object_graph.specs.NameParts.{NameParts}
 use Rattle.object_graph.specs.Names.{root_name}
 use Rattle.object_graph.specs.Slots.{has_slot}
@@ -13,18 +11,18 @@ use Rattle.object_graph.specs.declared.calls.Call.{Call}
 use Rattle.object_graph.specs.declared.calls.Call.TheVariants.{New, Commit, Sweep, Reopen}
 use Rattle.object_graph.specs.declared.calls.Reply.{Reply}
 use Rattle.object_graph.specs.declared.calls.Reply.TheVariants.{Refused}
-use Rattle.object_graph.specs.Graphs.{has_object, has_name, refers, IsReachedFrom}
+use Rattle.object_graph.specs.Graphs.{has_object, has_name, refers}
 use Rattle.store_model.specs.Worlds.{World, Transaction, Opening, unfreed, Note, Doubt, no_doubt, commit_in_doubt, sweep_in_doubt, starts, view, is_freed, find_transaction, transaction, fresh_transaction, IsReached}
 use Rattle.store_model.specs.Causes.{first_refusal, new_name}
 use Rattle.store_model.specs.Replies.{AllowsReply, names_in, found_in}
-use Rattle.store_model.specs.Steps.{after_refusal, after_answer, after_reply, opening_of, opened, slots_freed, commits_found, graph_in_doubt, reopened}
+use Rattle.store_model.specs.Steps.{after_answer, after_reply, opening_of, slots_freed, commits_found, graph_in_doubt, reopened}
 use Rattle.store_model.specs.Lawful.{IsOutOfReach}
-use Rattle.store_model.proofs.Members.{In, append_right, in_filter, in_map, each_from}
-use Rattle.store_model.proofs.Paths.{has_name_in, in_has_name, in_has_object, reached_more}
+use Rattle.store_model.proofs.Members.{In, append_right, in_filter, in_map}
+use Rattle.store_model.proofs.Paths.{has_name_in, in_has_name, reached_more}
 use Rattle.store_model.proofs.Reach.{IsSafeView}
 use Rattle.store_model.proofs.Cuts.{refers_from, view_refers}
 use Rattle.store_model.specs.Lawful.{KeepsLost, IsOrderly}
-use Rattle.store_model.specs.Worlds.{is_unfreed, is_old, IsLost}
+use Rattle.store_model.specs.Worlds.{is_unfreed, IsLost}
 use Rattle.store_model.proofs.Changes.{graph-with_new, graph-after_refusal, freed-with_new, freed-after_refusal}
 use Rattle.store_model.proofs.OutOfReach.{safe_one, unreached_is_out, Follows, name_stays, out_stays}
 use Rattle.store_model.proofs.Lists.{find_in}

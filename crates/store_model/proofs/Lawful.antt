@@ -1,25 +1,24 @@
 -- Each allowed event leaves the world lawful.
-use Rattle.std.proofs.Common.{◌≡◌, ◌≢◌, ℕ, suc, ◌+◌, ◌<◌, ◌==◌, Bool, true, false, not, ◌&&◌, ◌||◌, cond, List, [], ◌∷◌, ◌++◌, map, length, replicate, Option, Some, None, refl, sym, subst, ap, ◌∙◌, ◌⊎◌, inl, inr, arith}
-use Rattle.std.specs.List.{AllByRecursion}
+use Rattle.std.proofs.Common.{◌≡◌, ◌≢◌, ℕ, suc, ◌<◌, Bool, true, false, ◌&&◌, ◌||◌, cond, List, [], ◌∷◌, map, length, replicate, Option, Some, None, refl, sym, subst, ap, ◌∙◌, ◌⊎◌, inl, inr, arith}
 use Rattle.std.specs.Option.{is_none, is_some, option_map, MatchOption}
 use Rattle.std.proofs.lemmas.Bool.{and_parts, and_from}
 use Rattle.object_graph.specs.NameParts.{NameParts}
 use Rattle.object_graph.specs.Names.{name_eq, root_name}
 use Rattle.object_graph.specs.declared.names.Object.{Object}
 use Rattle.object_graph.specs.declared.calls.Call.{Call}
-use Rattle.object_graph.specs.declared.calls.Call.TheVariants.{Begin, Get, Number, Set, Put, New, Commit, Abort, OpenCut, Copy, HandIn, Close, Mark, Sweep, EndCut, DropCut, Reopen}
+use Rattle.object_graph.specs.declared.calls.Call.TheVariants.{New, Commit, OpenCut, Copy, HandIn, Close, Mark, Sweep, EndCut, DropCut, Reopen}
 use Rattle.object_graph.specs.declared.calls.Reply.{Reply}
 use Rattle.object_graph.specs.declared.calls.Reply.TheVariants.{Refused}
 use Rattle.object_graph.specs.declared.calls.Refusal.{Refusal}
 use Rattle.object_graph.specs.declared.calls.Refusal.TheVariants.{DiskFault, Broken, NotOpen, Spent}
 use Rattle.object_graph.specs.Graphs.{is_at}
 use Rattle.object_graph.specs.Slots.{below}
-use Rattle.store_model.specs.Worlds.{World, Transaction, Opening, OpenedCut, Doubt, no_doubt, commit_in_doubt, sweep_in_doubt, Note, Event, find_transaction, fresh_world}
+use Rattle.store_model.specs.Worlds.{World, Opening, OpenedCut, Doubt, no_doubt, commit_in_doubt, sweep_in_doubt, Note, Event, find_transaction, fresh_world}
 use Rattle.store_model.specs.Causes.{first_met, first_refusal, causes, when, broken, not_open, spent, new_name}
-use Rattle.store_model.specs.Replies.{AllowsReply, Allows, Refuses, is_free}
-use Rattle.store_model.specs.Steps.{with_new, opened, opening_of, after_refusal, after_answer, after_reply, faults_in, doubt_after, next}
+use Rattle.store_model.specs.Replies.{AllowsReply, Refuses}
+use Rattle.store_model.specs.Steps.{with_new, opened, after_refusal, after_answer, after_reply, faults_in, doubt_after, next}
 use Rattle.store_model.specs.Histories.{after, IsLegal}
-use Rattle.store_model.specs.Lawful.{IsOutOfReach, KeepsLost, KeepsLostOf, IsDoubtOf, IsLawful, IsOrderly, generations_at}
+use Rattle.store_model.specs.Lawful.{KeepsLost, KeepsLostOf, IsDoubtOf, IsLawful, IsOrderly}
 use Rattle.store_model.proofs.Allowed.{first_met_none, when_none}
 use Rattle.store_model.proofs.Opened.{nones}
 use Rattle.store_model.proofs.Keeps.{opening_keeps_lost, event_keeps_lost}

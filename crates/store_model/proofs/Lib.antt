@@ -19,3 +19,5 @@ pub mod Places
 pub mod Reach
 pub mod Rounds
 pub mod Lawful
+pub mod Tests
+pub mod Examples

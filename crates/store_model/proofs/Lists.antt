@@ -1,8 +1,7 @@
 -- Lists of pages, of names and of transactions.
-use Rattle.std.proofs.Common.{◌≡◌, ◌≢◌, ℕ, zero, suc, ◌+◌, ◌<◌, ◌≤◌, ◌==◌, Bool, true, false, not, ◌&&◌, ◌||◌, cond, List, [], ◌∷◌, ◌++◌, map, length, Option, Some, None, refl, sym, subst, ap, ◌∙◌, ◌⊎◌, inl, inr, arith}
+use Rattle.std.proofs.Common.{◌≡◌, ◌≢◌, ℕ, zero, suc, ◌<◌, ◌≤◌, ◌==◌, Bool, true, false, ◌||◌, cond, List, [], ◌∷◌, map, length, Some, None, refl, sym, subst, ap, ◌∙◌, ◌⊎◌, inl, inr, arith}
 use Rattle.std.specs.List.{list_any, find, filter, slice_get, AllByRecursion}
-use Rattle.std.specs.Option.{is_none, unwrap_or}
-use Rattle.std.proofs.lemmas.Bool.{cases_Bool, eqb-true, eq-eqb, not-false, or_cases}
+use Rattle.std.proofs.lemmas.Bool.{eqb-true, eq-eqb}
 use Rattle.object_graph.specs.NameParts.{NameParts}
 use Rattle.object_graph.specs.Names.{name_eq}
 use Rattle.object_graph.specs.Graphs.{has_name}
@@ -10,9 +9,7 @@ use Rattle.store_model.specs.Worlds.{Transaction}
 use Rattle.store_model.specs.Causes.{has_page}
 use Rattle.store_model.specs.Steps.{with_page, with_name}
 use Rattle.store_model.specs.Lawful.{IsApart, AreApart}
-use Rattle.store_model.proofs.Members.{In, each_in, each_from, in_any, or_right, in_filter, filter_in}
-use Rattle.store_model.proofs.Paths.{name_eq_refl, name_eq_same, has_name_in, in_has_name}
-use Rattle.store_model.proofs.Allowed.{with_page_cases}
+use Rattle.store_model.proofs.Members.{In, each_in, each_from, or_right}
 
 -- ---- elements
 

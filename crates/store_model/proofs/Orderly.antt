@@ -1,35 +1,35 @@
 -- Each event leaves the world orderly, and what is freed out of reach.
-use Rattle.std.proofs.Common.{◌≡◌, ◌≢◌, ℕ, zero, suc, ◌+◌, ◌<◌, ◌≤◌, ◌==◌, Bool, true, false, not, ◌&&◌, ◌||◌, cond, List, [], ◌∷◌, ◌++◌, map, length, Option, Some, None, refl, sym, subst, ap, ◌∙◌, ◌⊎◌, inl, inr, arith}
-use Rattle.std.specs.List.{list_any, find, filter, AllByRecursion}
+use Rattle.std.proofs.Common.{◌≡◌, ℕ, ◌<◌, ◌==◌, Bool, true, false, not, cond, List, [], ◌∷◌, ◌++◌, length, Option, Some, None, refl, sym, subst, ap, inl, inr, arith}
+use Rattle.std.specs.List.{find, filter, AllByRecursion}
 use Rattle.std.specs.Bool.{IsTrue}
-use Rattle.std.specs.Option.{is_none, is_some, unwrap_or, option_map, MatchOption}
-use Rattle.std.proofs.lemmas.Bool.{and_parts, and_from, or_cases, cases_Bool, eqb-true, eq-eqb, not-true, not-false}
+use Rattle.std.specs.Option.{is_some, unwrap_or, MatchOption}
+use Rattle.std.proofs.lemmas.Bool.{and_parts, and_from, cases_Bool, eqb-true, not-true}
 use Rattle.object_graph.specs.NameParts.{NameParts}
-use Rattle.object_graph.specs.Names.{name_eq, root_name}
+use Rattle.object_graph.specs.Names.{root_name}
 use Rattle.object_graph.specs.declared.names.Object.{Object}
 use Rattle.object_graph.specs.declared.calls.Call.{Call}
 use Rattle.object_graph.specs.declared.calls.Call.TheVariants.{Begin, Get, Number, Set, Put, New, Commit, Abort, OpenCut, Copy, HandIn, Close, Mark, Sweep, EndCut, DropCut, Reopen}
 use Rattle.object_graph.specs.declared.calls.Reply.{Reply}
-use Rattle.object_graph.specs.declared.calls.Reply.TheVariants.{Done, Ref, Num, Made, Committed, Cut, Freed, Reopened, Refused}
+use Rattle.object_graph.specs.declared.calls.Reply.TheVariants.{Freed, Reopened, Refused}
 use Rattle.object_graph.specs.declared.calls.Refusal.{Refusal}
 use Rattle.object_graph.specs.declared.calls.Refusal.TheVariants.{DiskFault}
-use Rattle.object_graph.specs.Graphs.{has_name, has_object, is_at, objects_at}
+use Rattle.object_graph.specs.Graphs.{has_name, has_object, objects_at}
 use Rattle.store_model.specs.Worlds.{World, Transaction, OpenedCut, Doubt, no_doubt, commit_in_doubt, sweep_in_doubt, Note, starts, view, is_freed, unfreed, find_transaction, transaction, fresh_transaction, IsReached}
-use Rattle.store_model.specs.Causes.{has_page, first_refusal, causes, when, new_name}
-use Rattle.store_model.specs.Replies.{AllowsReply, Answers, AnswersSweep, AnswersReopen, names_in, found_in, IsGarbage, MayFree, MayFreeNow, MayBeFound, MayReopen}
-use Rattle.store_model.specs.Steps.{with_transaction, without, committed, swept, reopened, slots_freed, commits_found, graph_in_doubt, after_refusal, after_answer, after_reply}
-use Rattle.store_model.specs.Lawful.{IsOwn, IsKnownWrite, IsCovered, IsLawfulTransaction, IsApart, AreApart, IsOutOfReach}
-use Rattle.store_model.proofs.Members.{In, in_append, append_right, in_filter, filter_in, each_in, each_from}
+use Rattle.store_model.specs.Causes.{first_refusal, causes, new_name}
+use Rattle.store_model.specs.Replies.{AllowsReply, Answers, names_in, found_in, IsGarbage, MayFree, MayFreeNow, MayReopen}
+use Rattle.store_model.specs.Steps.{graph_in_doubt, after_refusal, after_answer, after_reply}
+use Rattle.store_model.specs.Lawful.{IsOwn, IsLawfulTransaction, IsApart, IsOutOfReach}
+use Rattle.store_model.proofs.Members.{in_append, append_right, in_filter, filter_in, each_in, each_from}
 use Rattle.store_model.proofs.Paths.{has_name_in, in_has_name, in_has_object}
 use Rattle.store_model.proofs.Allowed.{when_none}
 use Rattle.store_model.specs.Lawful.{IsOrderly}
 use Rattle.store_model.specs.Worlds.{is_unfreed}
-use Rattle.store_model.proofs.OutOfReach.{Follows, out_stays}
+use Rattle.store_model.proofs.OutOfReach.{out_stays}
 use Rattle.store_model.proofs.Lists.{find_in}
 use Rattle.store_model.proofs.Changes.{freed-with_new, freed-after_refusal}
 use Rattle.store_model.proofs.Opened.{nones, is_open, number_of_open, commit_is_open}
 use Rattle.store_model.proofs.Keeps.{follows, in_names_in}
-use Rattle.store_model.proofs.Lists.{all_map, filter_filter, find_none_filter, apart_at, apart_from}
+use Rattle.store_model.proofs.Lists.{all_map, find_none_filter, apart_at, apart_from}
 use Rattle.store_model.proofs.Orders.{IsPlacedName, lawful_one, placed_one}
 use Rattle.store_model.proofs.Calls.{get_is_orderly, number_is_orderly, set_is_orderly, put_is_orderly, new_is_orderly}
 use Rattle.store_model.proofs.Committed.{view_is_orderly, commit_is_orderly, abort_is_orderly}

@@ -1,29 +1,17 @@
 -- Each call of a transaction leaves the world orderly.
-use Rattle.std.proofs.Common.{◌≡◌, ◌≢◌, ℕ, zero, suc, ◌+◌, ◌<◌, ◌≤◌, ◌==◌, Bool, true, false, not, ◌&&◌, ◌||◌, cond, List, [], ◌∷◌, ◌++◌, map, length, Option, Some, None, refl, sym, subst, ap, ◌∙◌, ◌⊎◌, inl, inr, arith}
-use Rattle.std.specs.List.{list_any, find, filter, AllByRecursion}
-use Rattle.std.specs.Bool.{IsTrue}
-use Rattle.std.specs.Option.{is_none, unwrap_or, option_map}
-use Rattle.std.proofs.lemmas.Bool.{and_parts, and_from, or_cases, cases_Bool, cases_eq, eqb-true, eq-eqb, not-true, not-false}
+use Rattle.std.proofs.Common.{◌≡◌, ◌≢◌, ℕ, ◌<◌, ◌==◌, Bool, true, false, cond, List, map, length, refl, sym, subst, ap, ◌∙◌, inl, inr}
+use Rattle.std.specs.List.{filter, AllByRecursion}
+use Rattle.std.proofs.lemmas.Bool.{eq-eqb}
 use Rattle.std.proofs.lemmas.List.{length-map}
 use Rattle.object_graph.specs.NameParts.{NameParts}
-use Rattle.object_graph.specs.Names.{name_eq, root_name}
-use Rattle.object_graph.specs.declared.names.Object.{Object}
-use Rattle.object_graph.specs.Graphs.{has_name, has_object, is_at, objects_at}
-use Rattle.object_graph.specs.Slots.{below}
-use Rattle.store_model.specs.Worlds.{World, Transaction, Write, link, assign, slots_of, starts, is_freed, find_transaction, transaction, fresh_transaction}
-use Rattle.store_model.specs.Causes.{has_page, field_seen, holder, is_occupied, free_slot, name_at, new_name}
-use Rattle.store_model.specs.Steps.{with_page, with_name, with_target, with_transaction, reads_page, writes, makes, without}
-use Rattle.store_model.specs.Lawful.{IsPlaced, IsOwn, IsKnownWrite, IsCovered, IsLawfulTransaction, IsApart, AreApart}
-use Rattle.store_model.proofs.Members.{In, any_in, in_any, in_filter, filter_in, in_map, each_in, each_from, or_left, or_right}
-use Rattle.store_model.proofs.Paths.{name_eq_refl, name_eq_same, has_name_in, in_has_name}
+use Rattle.store_model.specs.Worlds.{World, Transaction, slots_of, starts, transaction}
+use Rattle.store_model.specs.Steps.{with_transaction}
+use Rattle.store_model.specs.Lawful.{IsPlaced, IsLawfulTransaction, IsApart}
+use Rattle.store_model.proofs.Members.{In, filter_in, each_in, each_from}
 use Rattle.store_model.proofs.Places.{filter_of_map}
-use Rattle.store_model.proofs.Cuts.{below_bound}
-use Rattle.store_model.proofs.Allowed.{nobody_holds, with_page_cases}
 use Rattle.store_model.specs.Lawful.{IsOrderly}
 use Rattle.store_model.proofs.Lists.{filter_same}
-use Rattle.store_model.proofs.Lists.{find_in}
-use Rattle.store_model.proofs.Lists.{all_map, two_in, filter_filter, find_none_filter, find_passes, any_false_filter, with_page_has, with_page_keeps, with_name_keeps, in_with_name, in_changed, apart_at, apart_from}
-use Rattle.store_model.proofs.Grown.{Grew, grew_covered, grew_all_known, grew_all_own, grew_all_writes, field_target}
+use Rattle.store_model.proofs.Lists.{two_in, in_changed, apart_at, apart_from}
 
 abbrev pub IsPlacedName : World → NameParts → Type 0
 IsPlacedName w n = IsPlaced w.pages (slots_of w) n

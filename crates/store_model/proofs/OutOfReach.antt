@@ -1,13 +1,8 @@
 -- What is out of reach stays so.
-use Rattle.std.proofs.Common.{◌≡◌, ℕ, ◌==◌, Bool, true, false, not, ◌&&◌, List, [], ◌∷◌, Option, Some, None, refl, sym, subst, ap, ◌∙◌, ◌⊎◌, inl, inr}
-use Rattle.std.specs.List.{AllByRecursion}
-use Rattle.std.specs.Bool.{IsTrue}
-use Rattle.std.proofs.lemmas.Bool.{and_parts}
+use Rattle.std.proofs.Common.{◌≡◌, true, sym, subst, ◌⊎◌, inl, inr}
 use Rattle.object_graph.specs.NameParts.{NameParts}
-use Rattle.object_graph.specs.Names.{root_name}
-use Rattle.object_graph.specs.declared.names.Object.{Object}
-use Rattle.object_graph.specs.Graphs.{has_object, has_name, IsReachedFrom}
-use Rattle.store_model.specs.Worlds.{World, Transaction, starts, view, is_freed, IsReached, IsHeldBy}
+use Rattle.object_graph.specs.Graphs.{has_object, IsReachedFrom}
+use Rattle.store_model.specs.Worlds.{World, Transaction, starts, view, IsReached, IsHeldBy}
 use Rattle.store_model.specs.Lawful.{IsLawfulTransaction, IsOutOfReach}
 use Rattle.store_model.proofs.Members.{In, each_in, each_from}
 use Rattle.store_model.proofs.Locks.{name_in_view}

@@ -1,11 +1,11 @@
 -- A test that finds what is reached, and by it a test of sweeps.
-use Rattle.std.proofs.Common.{◌≡◌, ℕ, zero, suc, Bool, true, false, ◌&&◌, ◌||◌, ◌==◌, not, List, [], ◌∷◌, map, length, refl, sym, subst, inl, inr}
+use Rattle.std.proofs.Common.{◌≡◌, ℕ, zero, suc, Bool, true, false, ◌&&◌, ◌||◌, ◌==◌, not, List, [], map, length, refl, sym, subst, inl, inr}
 use Rattle.std.specs.List.{list_any, list_all, filter}
 use Rattle.std.proofs.lemmas.Bool.{and_parts, and_from, or_cases, eq-eqb, not-true}
 use Rattle.object_graph.specs.NameParts.{NameParts}
 use Rattle.object_graph.specs.Names.{name_eq}
 use Rattle.object_graph.specs.declared.names.Object.{Object}
-use Rattle.object_graph.specs.Graphs.{has_object, has_name, is_to, refers, IsPath, IsReachedFrom, objects_at}
+use Rattle.object_graph.specs.Graphs.{has_object, has_name, is_to, refers, IsReachedFrom, objects_at}
 use Rattle.object_graph.specs.Slots.{slots_in}
 use Rattle.store_model.specs.Worlds.{World, Transaction, Opening, starts, view, is_freed, is_unfreed, is_old, IsHeldBy, IsLost}
 use Rattle.store_model.specs.Replies.{names_in, IsGarbage, MayFree}

@@ -9,3 +9,4 @@ pub mod Images
 pub mod Limits
 pub mod Texts
 pub mod Members
+pub mod Examples

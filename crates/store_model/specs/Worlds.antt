@@ -1,7 +1,7 @@
 -- What the store stands for: one graph that only grows, what was freed, the open transactions and the cut.
-use Rattle.std.specs.Prelude.{ℕ, Bool, not, ◌&&◌, ◌==◌, Option, None, List, [], ◌∷◌, ◌++◌, map, filter, find, unwrap_or, if◌then◌else◌, IsTrue}
+use Rattle.std.specs.Prelude.{ℕ, Bool, not, ◌&&◌, ◌==◌, Option, None, List, [], ◌∷◌, ◌++◌, map, filter, find, unwrap_or, IsTrue}
 use Rattle.object_graph.specs.NameParts.{NameParts}
-use Rattle.object_graph.specs.Names.{name_eq, root_name}
+use Rattle.object_graph.specs.Names.{root_name}
 use Rattle.object_graph.specs.declared.names.Object.{Object}
 use Rattle.object_graph.specs.declared.calls.Phase.{Phase}
 use Rattle.object_graph.specs.declared.calls.Entry.{Entry}
