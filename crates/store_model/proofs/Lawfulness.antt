@@ -74,6 +74,11 @@ pub broken_comes_first : (w : World) (call : Call) (note : Note) → call ≢ Re
 broken_comes_first w Reopen note h = absurd (h refl)
 broken_comes_first w _ note h = (_, refl)
 
+pub broken_refuses : (w : World) (call : Call) (note : Note) (count : ℕ) → call ≢ Reopen → w.broken ≡ Some count → first_refusal w call note ≡ Some (Broken count)
+broken_refuses w call note count h is =
+    let a = broken_comes_first w call note h in
+    ap first_met a.1 ∙ ap (λ o. first_met (option_map (λ n. Broken n) o ∷ a.0)) is
+
 unbroken : (w : World) (call : Call) (note : Note) → call ≢ Reopen → first_refusal w call note ≡ None → broken w ≡ None
 unbroken w call note h may =
     let a = broken_comes_first w call note h in
