@@ -22,3 +22,6 @@ pub mod Lawfulness
 pub mod Tests
 pub mod Scripts
 pub mod News
+pub mod Spelled
+pub mod CallTexts
+pub mod RefusalTexts

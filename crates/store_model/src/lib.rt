@@ -7,6 +7,7 @@ mod examples;
 mod histories;
 mod lawful;
 mod steps;
+mod texts;
 
 pub use examples::{
     a_born_object_is_not_freed, a_chain_unlinked_is_collected, a_commit_in_doubt_may_be_done,
@@ -27,3 +28,4 @@ pub use steps::{
     broken_comes_first, commits_do_not_fall, committed_names_stay, freed_names_stay,
     only_commits_and_reopenings_change_the_graph, refusals_leave_the_world,
 };
+pub use texts::{no_two_calls_have_one_text, no_two_refusals_have_one_text};
