@@ -1,6 +1,6 @@
 -- No two calls have one text, but for a copy that is handed in.
-use Rattle.std.proofs.Common.{◌≡◌, ℕ, true, false, not, List, [], ◌∷◌, ◌++◌, map, get_or, Option, Some, None, refl, arith, append-nil}
-use Rattle.std.specs.Prelude.{codes, decimal}
+use Rattle.std.proofs.Common.{◌≡◌, ℕ, true, not, List, [], ◌∷◌, map, get_or, Some, None, refl, arith, append-nil}
+use Rattle.std.specs.Prelude.{codes}
 use Rattle.std.proofs.lemmas.List.{append_assoc}
 use Rattle.object_graph.specs.NameParts.{NameParts}
 use Rattle.object_graph.specs.declared.calls.Call.{Call}
@@ -58,23 +58,23 @@ abbrev IsCallSpelled : Call → Type 0
 IsCallSpelled call = IsSpelled call_text call_kind call_numbers call_of (word_in call_words) (word_in call_separators) kind_in_call call
 
 call_spelled : (call : Call) → not (is_hand_in call) ≡ true → IsCallSpelled call
-call_spelled (Begin txn) h = record { told = refl; is = simp (append_assoc, append-nil) refl; all = refl; low = (omega arith, tt); again = refl }
+call_spelled (Begin txn) h = record { told = refl; is = simp append-nil refl; all = refl; low = (omega arith, tt); again = refl }
 call_spelled (Get txn name field) h = record { told = refl; is = simp (append_assoc, append-nil) refl; all = refl; low = (omega arith, (omega arith, (omega arith, (omega arith, (omega arith, tt))))); again = refl }
-call_spelled (Number txn name) h = record { told = refl; is = simp (append_assoc, append-nil) refl; all = refl; low = (omega arith, (omega arith, (omega arith, (omega arith, tt)))); again = refl }
+call_spelled (Number txn name) h = record { told = refl; is = simp append-nil refl; all = refl; low = (omega arith, (omega arith, (omega arith, (omega arith, tt)))); again = refl }
 call_spelled (Set txn name field None) h = record { told = refl; is = simp (append_assoc, append-nil) refl; all = refl; low = (omega arith, (omega arith, (omega arith, (omega arith, (omega arith, tt))))); again = refl }
 call_spelled (Set txn name field (Some target)) h = record { told = refl; is = simp (append_assoc, append-nil) refl; all = refl; low = (omega arith, (omega arith, (omega arith, (omega arith, (omega arith, (omega arith, (omega arith, (omega arith, tt)))))))); again = refl }
 call_spelled (Put txn name value) h = record { told = refl; is = simp (append_assoc, append-nil) refl; all = refl; low = (omega arith, (omega arith, (omega arith, (omega arith, (omega arith, tt))))); again = refl }
-call_spelled (New txn page) h = record { told = refl; is = simp (append_assoc, append-nil) refl; all = refl; low = (omega arith, (omega arith, tt)); again = refl }
-call_spelled (Commit txn) h = record { told = refl; is = simp (append_assoc, append-nil) refl; all = refl; low = (omega arith, tt); again = refl }
-call_spelled (Abort txn) h = record { told = refl; is = simp (append_assoc, append-nil) refl; all = refl; low = (omega arith, tt); again = refl }
-call_spelled OpenCut h = record { told = refl; is = simp (append_assoc, append-nil) refl; all = refl; low = tt; again = refl }
-call_spelled (Copy page) h = record { told = refl; is = simp (append_assoc, append-nil) refl; all = refl; low = (omega arith, tt); again = refl }
-call_spelled Close h = record { told = refl; is = simp (append_assoc, append-nil) refl; all = refl; low = tt; again = refl }
-call_spelled (Mark workers) h = record { told = refl; is = simp (append_assoc, append-nil) refl; all = refl; low = (omega arith, tt); again = refl }
-call_spelled (Sweep page) h = record { told = refl; is = simp (append_assoc, append-nil) refl; all = refl; low = (omega arith, tt); again = refl }
-call_spelled EndCut h = record { told = refl; is = simp (append_assoc, append-nil) refl; all = refl; low = tt; again = refl }
-call_spelled DropCut h = record { told = refl; is = simp (append_assoc, append-nil) refl; all = refl; low = tt; again = refl }
-call_spelled Reopen h = record { told = refl; is = simp (append_assoc, append-nil) refl; all = refl; low = tt; again = refl }
+call_spelled (New txn page) h = record { told = refl; is = simp append-nil refl; all = refl; low = (omega arith, (omega arith, tt)); again = refl }
+call_spelled (Commit txn) h = record { told = refl; is = simp append-nil refl; all = refl; low = (omega arith, tt); again = refl }
+call_spelled (Abort txn) h = record { told = refl; is = simp append-nil refl; all = refl; low = (omega arith, tt); again = refl }
+call_spelled OpenCut h = record { told = refl; is = refl; all = refl; low = tt; again = refl }
+call_spelled (Copy page) h = record { told = refl; is = simp append-nil refl; all = refl; low = (omega arith, tt); again = refl }
+call_spelled Close h = record { told = refl; is = refl; all = refl; low = tt; again = refl }
+call_spelled (Mark workers) h = record { told = refl; is = simp append-nil refl; all = refl; low = (omega arith, tt); again = refl }
+call_spelled (Sweep page) h = record { told = refl; is = simp append-nil refl; all = refl; low = (omega arith, tt); again = refl }
+call_spelled EndCut h = record { told = refl; is = refl; all = refl; low = tt; again = refl }
+call_spelled DropCut h = record { told = refl; is = refl; all = refl; low = tt; again = refl }
+call_spelled Reopen h = record { told = refl; is = refl; all = refl; low = tt; again = refl }
 call_spelled (HandIn page cut seen) h = cc
 
 pub call_texts_differ : (a b : Call) → not (is_hand_in a) ≡ true → not (is_hand_in b) ≡ true → AreShort (call_numbers a) → AreShort (call_numbers b) → call_text a ≡ call_text b → a ≡ b

@@ -272,12 +272,12 @@ making w n page slot lawful opn within free is = record {
   numbers = λ t. refl;
   lawful = record {
     own = each_from (IsOwn w.graph w.freed after) (t.own ++ name ∷ []) (λ m i. elim (in_append t.own (name ∷ []) m i) [
-        | inl before ↦ grew_own w.graph w.freed t after m g (each_in (IsOwn w.graph w.freed t) t.own m lt.own before)
-        | inr new ↦ elim new [
-          | inl q ↦ subst (IsOwn w.graph w.freed after) (sym q) (record { page = with_page_has page t.pages_written; free = is.free; next = refl })
-          | inr z ↦ absurd z
-        ]
-      ]);
+      | inl before ↦ grew_own w.graph w.freed t after m g (each_in (IsOwn w.graph w.freed t) t.own m lt.own before)
+      | inr new ↦ elim new [
+        | inl q ↦ subst (IsOwn w.graph w.freed after) (sym q) (record { page = with_page_has page t.pages_written; free = is.free; next = refl })
+        | inr z ↦ absurd z
+      ]
+    ]);
     one_at_each_place = λ p s. one_more_at p s page slot (1 + length (objects_at w.graph page slot)) t.own (lt.one_at_each_place p s) is.none;
     writes = grew_all_writes t after g lt.writes;
     known = each_from (IsCovered w.graph (starts w) after) (with_name name t.known) (λ m i.

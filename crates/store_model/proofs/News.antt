@@ -1,16 +1,16 @@
 -- The name of a new object is new.
-use Rattle.std.proofs.Common.{◌≡◌, ◌≢◌, ℕ, ◌+◌, Bool, true, false, ◌&&◌, ◌==◌, ◌||◌, List, [], ◌∷◌, Option, Some, None, refl, sym, subst, ap, ◌⊎◌, inl, inr}
-use Rattle.std.specs.List.{list_any, AllByRecursion}
+use Rattle.std.proofs.Common.{◌≡◌, ℕ, true, false, ◌==◌, Option, Some, None, refl, sym, subst, inl, inr}
+use Rattle.std.specs.List.{AllByRecursion}
 use Rattle.std.specs.Option.{option_map}
 use Rattle.std.proofs.lemmas.Bool.{cases_Bool, cases_eq, eq-eqb, and_from}
 use Rattle.object_graph.specs.NameParts.{NameParts}
 use Rattle.object_graph.specs.declared.calls.Call.TheVariants.{New}
 use Rattle.object_graph.specs.declared.calls.Reply.TheVariants.{Made}
 use Rattle.object_graph.specs.Graphs.{has_name, has_object, is_at}
-use Rattle.store_model.specs.Worlds.{World, Transaction, Note, starts, transaction}
+use Rattle.store_model.specs.Worlds.{World, Transaction, Note, transaction}
 use Rattle.store_model.specs.Causes.{has_page, causes, free_slot, name_at}
-use Rattle.store_model.specs.Replies.{AllowsReply, answer_made}
-use Rattle.store_model.specs.Lawful.{IsOwn, IsLawfulTransaction, IsOrderly}
+use Rattle.store_model.specs.Replies.{AllowsReply, AnswersNew}
+use Rattle.store_model.specs.Lawful.{IsOwn, IsOrderly}
 use Rattle.store_model.proofs.Members.{In, in_any, each_in, each_from}
 use Rattle.store_model.proofs.Paths.{has_name_in}
 use Rattle.store_model.proofs.Cuts.{next_name_is_new}
@@ -19,7 +19,7 @@ use Rattle.store_model.proofs.Orders.{the_one, lawful_one}
 use Rattle.store_model.proofs.Calls.{no_user, vacant, right_false}
 
 -- the slot that is taken
-the_slot : (w : World) (n page : ℕ) (name : NameParts) (o : Option ℕ) → free_slot w n page ≡ o → answer_made (option_map (name_at w.graph page) o) (Made name)
+the_slot : (w : World) (n page : ℕ) (name : NameParts) (o : Option ℕ) → free_slot w n page ≡ o → AnswersNew (option_map (name_at w.graph page) o) (Made name)
     → (slot : ℕ) × (free_slot w n page ≡ Some slot) × (name ≡ name_at w.graph page slot)
 the_slot w n page name None e is = absurd is
 the_slot w n page name (Some slot) e is = (slot, e, let z : name ≡ name_at w.graph page slot = cc in z)

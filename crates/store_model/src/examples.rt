@@ -107,4 +107,3 @@ pub fn a_commit_is_not_counted_twice()
 pub fn refusals_keep_their_order()
     ensures { ¬ IsLegal (fresh_world 2) worked.a_refusal_out_of_order }
 {}
-

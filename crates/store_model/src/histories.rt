@@ -1,4 +1,4 @@
-//! Histories in parts, and the marks of a run.
+//! Histories in parts, refused replies, and the marks of a run.
 ghost use Rattle.std.specs.Prelude.{◌≡◌, ◌↔◌, ℕ, List, [], ◌∷◌, ◌++◌};
 ghost use Rattle.object_graph.specs.declared.calls.Call.TheVariants.{Mark};
 ghost use Rattle.object_graph.specs.declared.calls.Refusal.TheVariants.{OtherCut};
@@ -6,7 +6,16 @@ ghost use Rattle.object_graph.specs.declared.calls.Reply.TheVariants.{Refused};
 ghost use Rattle.store_model.specs.Worlds.{World, Note, Event};
 ghost use Rattle.store_model.specs.Replies.{Allows, AllowsReply};
 ghost use Rattle.store_model.specs.Steps.{next};
-ghost use Rattle.store_model.specs.Histories.{after, IsLegal, HasPresentMarks};
+ghost use Rattle.store_model.specs.Histories.{after, IsLegal, HasPresentMarks, is_refused as tells_refusal};
+
+use object_graph::Reply;
+
+/// Whether a reply refuses its call. A line of several calls stops after the first that is refused.
+pub fn is_refused(reply: &Reply) -> bool
+    ensures { result ≡ tells_refusal reply.now }
+{
+    matches!(reply, Reply::Refused { .. })
+}
 
 /// A history is legal with one more event exactly where it is legal without it and the event is
 /// allowed after it.

@@ -11,7 +11,8 @@ ghost use Rattle.store_model.specs.Members.{In};
 ghost use Rattle.store_model.specs.Replies.{Allows, AllowsReply};
 ghost use Rattle.store_model.specs.Steps.{next, after_reply};
 ghost use Rattle.store_model.specs.Histories.{after, IsLegal};
-ghost use Rattle.store_model.specs.Lawful.{IsOrderly, IsLawful, IsOutOfReach, generations_at};
+ghost use Rattle.store_model.specs.Worlds.{IsOutOfReach};
+ghost use Rattle.store_model.specs.Lawful.{IsOrderly, IsLawful, generations_at};
 
 /// The world of a fresh store is lawful.
 pub fn fresh_worlds_are_lawful()

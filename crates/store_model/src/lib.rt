@@ -1,11 +1,12 @@
 //! The model of the store: one graph that only grows, open transactions, a cut, and reachability by
-//! paths. The definitions stand in `specs/`; each function here is a law of them. It does nothing
-//! when it is called.
+//! paths. The definitions stand in `specs/`. Each function without a result is a law of them, and does
+//! nothing when it is called.
 #![tactic(auto)]
 
 mod examples;
 mod histories;
 mod lawful;
+mod limits;
 mod steps;
 mod texts;
 
@@ -17,13 +18,16 @@ pub use examples::{
     phases_come_in_order, refusals_come_in_order, refusals_keep_their_order,
     what_is_born_in_a_cut_outlives_it,
 };
-pub use histories::{histories_in_two_parts, one_more_event, present_marks_are_of_no_other_cut};
+pub use histories::{
+    histories_in_two_parts, is_refused, one_more_event, present_marks_are_of_no_other_cut,
+};
 pub use lawful::{
     a_commit_reaches_own_objects_alone, a_new_name_is_new, each_event_keeps_the_world_lawful,
     fresh_worlds_are_lawful, histories_keep_the_world_lawful, names_count_up,
     what_a_transaction_holds_is_reached_or_its_own, what_is_freed_is_out_of_reach,
     what_is_out_of_reach_stays_so,
 };
+pub use limits::{last_generation, most_counted, most_known, most_open, most_written};
 pub use steps::{
     broken_comes_first, commits_do_not_fall, committed_names_stay, freed_names_stay,
     only_commits_and_reopenings_change_the_graph, refusals_leave_the_world,
