@@ -13,3 +13,4 @@ pub mod Headline
 pub mod Places
 pub mod Turning
 pub mod FrameSteps
+pub mod Courses
