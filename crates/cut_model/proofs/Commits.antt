@@ -1,31 +1,30 @@
 -- A commit keeps a cut sound that is given an after-image of each page that it wrote.
-use Rattle.std.proofs.Common.{◌≡◌, ℕ, ◌+◌, ◌<◌, ◌≤◌, ◌==◌, Bool, true, false, not, ◌&&◌, ◌||◌, cond, List, [], ◌∷◌, ◌++◌, map, length, get_or, Option, Some, None, refl, sym, subst, ap, ◌∙◌, ◌⊎◌, inl, inr, arith}
+use Rattle.std.proofs.Common.{◌≡◌, ℕ, ◌+◌, ◌<◌, ◌≤◌, ◌==◌, Bool, true, false, not, ◌||◌, List, [], ◌∷◌, map, length, get_or, Option, Some, None, refl, sym, subst, ap, ◌∙◌, inl, inr, arith}
 use Rattle.std.specs.List.{list_any, filter, AllByRecursion}
 use Rattle.std.specs.Bool.{IsTrue}
-use Rattle.std.specs.Option.{IfSome, IsSomeAnd}
+use Rattle.std.specs.Option.{IfSome}
 use Rattle.std.proofs.lemmas.Bool.{and_parts, and_from, cases_Bool, eqb-true, eq-eqb, not-true}
 use Rattle.object_graph.specs.NameParts.{NameParts}
-use Rattle.object_graph.specs.SlotParts.{SlotParts}
 use Rattle.object_graph.specs.Slots.{has_slot}
 use Rattle.object_graph.specs.declared.names.Object.{Object}
 use Rattle.object_graph.specs.Graphs.{has_name, has_object, is_at, objects_at}
 use Rattle.object_graph.specs.Slots.{below}
 use Rattle.store_model.specs.Images.{shown_slot}
-use Rattle.store_model.specs.Worlds.{World, Transaction, Opening, slots_of, fields_of, starts, view, with_writes, new_object}
+use Rattle.store_model.specs.Worlds.{World, Transaction, Opening, slots_of, fields_of, starts, view, new_object}
 use Rattle.store_model.specs.Causes.{has_page}
-use Rattle.store_model.specs.Lawful.{IsOwn, IsKnownWrite, IsLawfulTransaction}
+use Rattle.store_model.specs.Lawful.{IsOwn, IsLawfulTransaction}
 use Rattle.store_model.proofs.Members.{In, any_in, in_any, in_filter, filter_in, each_in, each_from, or_right}
-use Rattle.store_model.proofs.Paths.{in_has_object, in_has_name}
+use Rattle.store_model.proofs.Paths.{in_has_name}
 use Rattle.store_model.proofs.Images.{commit_keeps_slot}
 use Rattle.store_model.proofs.Reach.{name-with_writes, view_object}
 use Rattle.store_model.proofs.Cuts.{safe_view}
 use Rattle.store_model.specs.Lawful.{IsOrderly}
-use Rattle.store_model.specs.Worlds.{is_unfreed, is_old, IsLost}
+use Rattle.store_model.specs.Worlds.{is_unfreed, is_old}
 use Rattle.store_model.specs.Images.{shown_of, shown_in, shown}
-use Rattle.cut_model.specs.States.{State, state_of, state_after, KeepsOpening, shown_by}
-use Rattle.cut_model.specs.CutPages.{Copied, Changed, CutPage, no_page, settled_with, settled_image, images_of_copy, images_of_change, images_of, with_commit}
+use Rattle.cut_model.specs.States.{state_of, state_after, KeepsOpening}
+use Rattle.cut_model.specs.CutPages.{Copied, Changed, CutPage, no_page, settled_with, settled_image, images_of_copy, images_of_change, with_commit}
 use Rattle.cut_model.specs.Sound.{IsSafeImage, IsBornRight, IsSoundPage, IsSound, IsFitCopy}
-use Rattle.cut_model.specs.Moves.{IsMade, IsCutAfter}
+use Rattle.cut_model.specs.Changes.{IsMade, IsCutAfter}
 use Rattle.cut_model.proofs.Views.{view_safe}
 use Rattle.cut_model.proofs.Fits.{all_right}
 

@@ -1,15 +1,14 @@
 -- A cut that runs through may end.
-use Rattle.std.proofs.Common.{◌≡◌, ◌≢◌, ℕ, zero, suc, ◌+◌, ◌<◌, ◌≤◌, ◌==◌, Bool, true, false, not, cond, List, [], ◌∷◌, ◌++◌, length, Option, Some, None, refl, sym, subst, ap, ◌∙◌, ◌⊎◌, inl, inr, arith, ltb}
-use borrow.Author.Tests.{ltb-true, ltb-false}
+use Rattle.std.proofs.Common.{◌≡◌, ◌≢◌, ℕ, ◌+◌, ◌<◌, ◌≤◌, ◌==◌, Bool, true, false, not, cond, List, [], ◌∷◌, ◌++◌, Option, Some, None, refl, sym, subst, ap, ◌∙◌, ◌⊎◌, inl, inr, arith, ltb}
+use borrow.Author.Tests.{ltb-false}
 use Rattle.std.specs.List.{find, AllByRecursion}
-use Rattle.std.specs.Option.{is_none, is_some, unwrap_or, option_map, MatchOption}
-use Rattle.std.proofs.lemmas.Bool.{cases_Bool, eq-eqb, not-false, not-true}
-use Rattle.std.proofs.lemmas.List.{append_assoc}
+use Rattle.std.specs.Option.{unwrap_or, option_map, MatchOption}
+use Rattle.std.proofs.lemmas.Bool.{cases_Bool, eq-eqb, not-false}
 use Rattle.object_graph.specs.NameParts.{NameParts}
 use Rattle.object_graph.specs.declared.calls.Phase.{Phase}
 use Rattle.object_graph.specs.declared.calls.Phase.TheVariants.{Copying, Closed, Sweeping}
 use Rattle.object_graph.specs.declared.calls.Call.{Call}
-use Rattle.object_graph.specs.declared.calls.Call.TheVariants.{Begin, Get, Number, Set, Put, New, Commit, Abort, OpenCut, Copy, HandIn, Close, Mark, Sweep, EndCut, DropCut, Reopen}
+use Rattle.object_graph.specs.declared.calls.Call.TheVariants.{New, OpenCut, Copy, HandIn, Close, Mark, Sweep, EndCut, DropCut, Reopen}
 use Rattle.object_graph.specs.declared.calls.Reply.{Reply}
 use Rattle.object_graph.specs.declared.calls.Reply.TheVariants.{Done, Cut, Refused}
 use Rattle.object_graph.specs.declared.calls.Refusal.{Refusal}
@@ -18,12 +17,11 @@ use Rattle.object_graph.specs.Slots.{below}
 use Rattle.store_model.specs.Members.{In}
 use Rattle.store_model.specs.Worlds.{World, OpenedCut, Note, nothing, marks, Event}
 use Rattle.store_model.specs.Causes.{has_page, first_met, first_refusal, when, broken, cut_there, spent, on_cut, is_phase, wrong_phase, no_page, already_copied, already_swept, other_cut, wrong_marks, missing, uncopied, unswept, new_name}
-use Rattle.store_model.specs.Replies.{AllowsReply, Refuses, Answers, is_free}
-use Rattle.store_model.specs.Steps.{opening_of, with_page, with_cut, with_new, opened, swept, has_swept, slots_freed, after_refusal, after_answer, after_reply, next}
+use Rattle.store_model.specs.Replies.{AllowsReply, Answers, is_free}
+use Rattle.store_model.specs.Steps.{opening_of, with_page, with_new, opened, has_swept, after_refusal, after_answer, after_reply, next}
 use Rattle.store_model.specs.Histories.{after, IsLegal}
-use Rattle.store_model.proofs.Members.{each_in, in_append}
 use Rattle.store_model.proofs.Allowed.{first_met_none, when_none}
-use Rattle.store_model.proofs.Lists.{with_page_has, with_page_keeps, find_in, find_passes}
+use Rattle.store_model.proofs.Lists.{with_page_has, with_page_keeps}
 use Rattle.store_model.proofs.Cuts.{below_bound}
 use Rattle.store_model.proofs.Parts.{IsLegal-parts, after-append}
 use Rattle.cut_model.proofs.Fits.{all_left, all_right}

@@ -1,17 +1,14 @@
 -- The graph of a cut: which objects are in it.
-use Rattle.std.proofs.Common.{◌≡◌, ℕ, ◌<◌, Bool, true, List, [], ◌∷◌, ◌++◌, length, get_or, Option, Some, None, refl, sym, subst, ap, ◌∙◌, inl, inr}
-use Rattle.std.specs.Option.{is_some, IfSome, option_map, unwrap_or}
-use Rattle.std.specs.List.{AllByRecursion}
-use Rattle.object_graph.specs.NameParts.{NameParts}
+use Rattle.std.proofs.Common.{◌≡◌, ℕ, ◌<◌, true, List, ◌++◌, length, get_or, Option, Some, None, refl, sym, subst, ap, ◌∙◌, inl, inr}
+use Rattle.std.specs.Option.{is_some, IfSome, unwrap_or}
 use Rattle.object_graph.specs.SlotParts.{SlotParts}
 use Rattle.object_graph.specs.declared.names.Object.{Object}
 use Rattle.object_graph.specs.Slots.{below}
 use Rattle.store_model.specs.Worlds.{Opening}
-use Rattle.store_model.proofs.Members.{In, in_append, append_left, append_right, each_in}
+use Rattle.store_model.proofs.Members.{In, each_in}
 use Rattle.store_model.proofs.Cuts.{below_bound}
-use Rattle.store_model.specs.Images.{shown_of, shown_in, shown}
 use Rattle.cut_model.specs.States.{State, shown_by}
-use Rattle.cut_model.specs.Images.{flat, objects_of}
+use Rattle.cut_model.specs.Images.{objects_of}
 use Rattle.cut_model.specs.CutPages.{Copied, Changed, CutPage, no_page, committed_image, settled_with, settled_image, images_of_before, images_of_copy, images_of_change, images_of, objects_on, cut_graph}
 use Rattle.cut_model.specs.Sound.{IsSafeObject, IsSafeImage, IsSoundPage, IsSound}
 use Rattle.cut_model.proofs.Flats.{in_flat, flat_in, in_below}

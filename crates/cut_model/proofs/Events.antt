@@ -1,7 +1,6 @@
 -- Each event keeps a cut sound while it is copied.
-use Rattle.std.proofs.Common.{arith, ◌≡◌, ℕ, ◌<◌, ◌==◌, Bool, true, false, cond, not, List, [], ◌∷◌, length, get_or, Option, Some, None, refl, sym, subst, ap, ◌∙◌, inl, inr}
-use Rattle.std.specs.List.{find}
-use Rattle.std.specs.Option.{is_none, is_some, unwrap_or}
+use Rattle.std.proofs.Common.{arith, ◌≡◌, ℕ, ◌<◌, true, false, List, length, get_or, Option, Some, None, refl, sym, subst, ap, ◌∙◌, inl, inr}
+use Rattle.std.specs.Option.{is_some}
 use Rattle.std.proofs.lemmas.Bool.{cases_Bool, cases_eq}
 use Rattle.std.proofs.lemmas.List.{get_or-set_same, get_or-set_other}
 use Rattle.object_graph.specs.NameParts.{NameParts}
@@ -11,8 +10,8 @@ use Rattle.object_graph.specs.declared.calls.Reply.{Reply}
 use Rattle.object_graph.specs.declared.calls.Reply.TheVariants.{Refused}
 use Rattle.object_graph.specs.declared.calls.Refusal.{Refusal}
 use Rattle.object_graph.specs.declared.calls.Refusal.TheVariants.{DiskFault}
-use Rattle.store_model.specs.Worlds.{World, Transaction, Opening, Note, find_transaction, transaction, fresh_transaction}
-use Rattle.store_model.specs.Causes.{has_page, first_refusal, not_open, broken, spent, new_name}
+use Rattle.store_model.specs.Worlds.{World, Transaction, Opening, Note, transaction}
+use Rattle.store_model.specs.Causes.{has_page, first_refusal, new_name}
 use Rattle.store_model.specs.Replies.{AllowsReply}
 use Rattle.store_model.specs.Steps.{after_refusal, after_answer, after_reply, with_new}
 use Rattle.store_model.proofs.Members.{In}
@@ -22,7 +21,7 @@ use Rattle.cut_model.specs.States.{State, state_of, state_after, KeepsOpening}
 use Rattle.cut_model.specs.CutPages.{Copied, Changed, CutPage, no_page, with_copy}
 use Rattle.cut_model.specs.Sound.{IsSound, IsFit}
 use Rattle.cut_model.specs.Frames.{copy_now}
-use Rattle.cut_model.specs.Moves.{IsCutAfter, Adds, MovesBy, Moves, GivesImages, ends_copying}
+use Rattle.cut_model.specs.Changes.{IsCutAfter, Adds, ChangesBy, Changes, GivesImages, ends_copying}
 use Rattle.cut_model.proofs.Fits.{fit_copy_keeps_cut, frame_keeps_cut}
 use Rattle.cut_model.proofs.Commits.{commit_keeps_cut, fit_stays_written, fit_stays_other}
 
@@ -35,28 +34,28 @@ state-after_refusal w call note DiskFault = refl
 state-after_refusal w call note _ = refl
 
 answer_keeps_sound : (w : World) (opening : Opening) (call : Call) (note : Note) (reply : Reply) (pages after : List CutPage) → IsOrderly w → KeepsOpening w opening
-    → first_refusal w call note ≡ None → ends_copying call ≡ false → MovesBy w opening call pages after
+    → first_refusal w call note ≡ None → ends_copying call ≡ false → ChangesBy w opening call pages after
     → IsSound (state_of w) opening pages → IsSound (state_of (after_answer w call note reply)) opening after
-answer_keeps_sound w opening (New t page) note reply pages after lawful keeps may stays moves sound =
-    subst (λ s. IsSound s opening after) (sym (state-with_new w t (new_name w t page))) (subst (IsSound (state_of w) opening) (sym moves) sound)
-answer_keeps_sound w opening (Commit t) note reply pages after lawful keeps may stays moves sound =
-    commit_keeps_cut w (transaction w t) opening pages after lawful (commit_is_open w t note may) keeps moves sound
-answer_keeps_sound w opening (Copy page) note reply pages after lawful keeps may stays moves sound =
-    subst (IsSound (state_of w) opening) (sym moves.1) (frame_keeps_cut w opening pages page lawful keeps sound moves.0)
-answer_keeps_sound w opening (HandIn page number seen) note reply pages after lawful keeps may stays moves sound =
-    subst (IsSound (state_of w) opening) (sym moves.2.1) (fit_copy_keeps_cut (state_of w) opening pages page moves.0 sound moves.2.0 moves.1)
-answer_keeps_sound w opening (Sweep page) note reply pages after lawful keeps may stays moves sound = cc
-answer_keeps_sound w opening Reopen note reply pages after lawful keeps may stays moves sound = cc
-answer_keeps_sound w opening _ note reply pages after lawful keeps may stays moves sound = subst (IsSound (state_of w) opening) (sym moves) sound
+answer_keeps_sound w opening (New t page) note reply pages after lawful keeps may stays changes sound =
+    subst (λ s. IsSound s opening after) (sym (state-with_new w t (new_name w t page))) (subst (IsSound (state_of w) opening) (sym changes) sound)
+answer_keeps_sound w opening (Commit t) note reply pages after lawful keeps may stays changes sound =
+    commit_keeps_cut w (transaction w t) opening pages after lawful (commit_is_open w t note may) keeps changes sound
+answer_keeps_sound w opening (Copy page) note reply pages after lawful keeps may stays changes sound =
+    subst (IsSound (state_of w) opening) (sym changes.1) (frame_keeps_cut w opening pages page lawful keeps sound changes.0)
+answer_keeps_sound w opening (HandIn page number seen) note reply pages after lawful keeps may stays changes sound =
+    subst (IsSound (state_of w) opening) (sym changes.2.1) (fit_copy_keeps_cut (state_of w) opening pages page changes.0 sound changes.2.0 changes.1)
+answer_keeps_sound w opening (Sweep page) note reply pages after lawful keeps may stays changes sound = cc
+answer_keeps_sound w opening Reopen note reply pages after lawful keeps may stays changes sound = cc
+answer_keeps_sound w opening _ note reply pages after lawful keeps may stays changes sound = subst (IsSound (state_of w) opening) (sym changes) sound
 
 -- while a cut is copied, each allowed event keeps it sound
 pub event_keeps_sound : (w : World) (opening : Opening) (call : Call) (note : Note) (reply : Reply) (pages after : List CutPage) → IsOrderly w → KeepsOpening w opening
-    → AllowsReply w call note reply → ends_copying call ≡ false → Moves w opening call reply pages after
+    → AllowsReply w call note reply → ends_copying call ≡ false → Changes w opening call reply pages after
     → IsSound (state_of w) opening pages → IsSound (state_of (after_reply w call note reply)) opening after
-event_keeps_sound w opening call note (Refused why) pages after lawful keeps may stays moves sound =
-    subst (λ s. IsSound s opening after) (sym (state-after_refusal w call note why)) (subst (IsSound (state_of w) opening) (sym moves) sound)
-event_keeps_sound w opening call note reply pages after lawful keeps may stays moves sound =
-    answer_keeps_sound w opening call note reply pages after lawful keeps may.0 stays moves sound
+event_keeps_sound w opening call note (Refused why) pages after lawful keeps may stays changes sound =
+    subst (λ s. IsSound s opening after) (sym (state-after_refusal w call note why)) (subst (IsSound (state_of w) opening) (sym changes) sound)
+event_keeps_sound w opening call note reply pages after lawful keeps may stays changes sound =
+    answer_keeps_sound w opening call note reply pages after lawful keeps may.0 stays changes sound
 
 -- ---- a fit copy stays fit
 
@@ -98,25 +97,25 @@ fit_beside s opening pages after page other c d adds fit = elim (cases_eq page o
 ]
 
 answer_keeps_fit : (w : World) (opening : Opening) (call : Call) (note : Note) (reply : Reply) (pages after : List CutPage) (page : ℕ) (c : Copied) → IsOrderly w
-    → page < length pages → first_refusal w call note ≡ None → ends_copying call ≡ false → MovesBy w opening call pages after → GivesImages w call after
+    → page < length pages → first_refusal w call note ≡ None → ends_copying call ≡ false → ChangesBy w opening call pages after → GivesImages w call after
     → IsFit (state_of w) opening page (get_or pages page no_page) c → IsFit (state_of (after_answer w call note reply)) opening page (get_or after page no_page) c
-answer_keeps_fit w opening (New t p) note reply pages after page c lawful within may stays moves given fit =
+answer_keeps_fit w opening (New t p) note reply pages after page c lawful within may stays changes given fit =
     subst (λ s. IsFit s opening page (get_or after page no_page) c) (sym (state-with_new w t (new_name w t p)))
-    (subst (λ ps. IsFit (state_of w) opening page (get_or ps page no_page) c) (sym moves) fit)
-answer_keeps_fit w opening (Commit t) note reply pages after page c lawful within may stays moves given fit =
-    fit_commit w (transaction w t) opening pages after page c lawful (commit_is_open w t note may) within moves given fit
-answer_keeps_fit w opening (Copy p) note reply pages after page c lawful within may stays moves given fit = fit_beside (state_of w) opening pages after page p c (copy_now w p) moves fit
-answer_keeps_fit w opening (HandIn p number seen) note reply pages after page c lawful within may stays moves given fit = fit_beside (state_of w) opening pages after page p c moves.0 moves.2 fit
-answer_keeps_fit w opening (Sweep p) note reply pages after page c lawful within may stays moves given fit = cc
-answer_keeps_fit w opening Reopen note reply pages after page c lawful within may stays moves given fit = cc
-answer_keeps_fit w opening _ note reply pages after page c lawful within may stays moves given fit =
-    subst (λ ps. IsFit (state_of w) opening page (get_or ps page no_page) c) (sym moves) fit
+    (subst (λ ps. IsFit (state_of w) opening page (get_or ps page no_page) c) (sym changes) fit)
+answer_keeps_fit w opening (Commit t) note reply pages after page c lawful within may stays changes given fit =
+    fit_commit w (transaction w t) opening pages after page c lawful (commit_is_open w t note may) within changes given fit
+answer_keeps_fit w opening (Copy p) note reply pages after page c lawful within may stays changes given fit = fit_beside (state_of w) opening pages after page p c (copy_now w p) changes fit
+answer_keeps_fit w opening (HandIn p number seen) note reply pages after page c lawful within may stays changes given fit = fit_beside (state_of w) opening pages after page p c changes.0 changes.2 fit
+answer_keeps_fit w opening (Sweep p) note reply pages after page c lawful within may stays changes given fit = cc
+answer_keeps_fit w opening Reopen note reply pages after page c lawful within may stays changes given fit = cc
+answer_keeps_fit w opening _ note reply pages after page c lawful within may stays changes given fit =
+    subst (λ ps. IsFit (state_of w) opening page (get_or ps page no_page) c) (sym changes) fit
 
 pub event_keeps_fit : (w : World) (opening : Opening) (call : Call) (note : Note) (reply : Reply) (pages after : List CutPage) (page : ℕ) (c : Copied) → IsOrderly w
-    → page < length pages → AllowsReply w call note reply → ends_copying call ≡ false → Moves w opening call reply pages after → GivesImages w call after
+    → page < length pages → AllowsReply w call note reply → ends_copying call ≡ false → Changes w opening call reply pages after → GivesImages w call after
     → IsFit (state_of w) opening page (get_or pages page no_page) c → IsFit (state_of (after_reply w call note reply)) opening page (get_or after page no_page) c
-event_keeps_fit w opening call note (Refused why) pages after page c lawful within may stays moves given fit =
+event_keeps_fit w opening call note (Refused why) pages after page c lawful within may stays changes given fit =
     subst (λ s. IsFit s opening page (get_or after page no_page) c) (sym (state-after_refusal w call note why))
-    (subst (λ ps. IsFit (state_of w) opening page (get_or ps page no_page) c) (sym moves) fit)
-event_keeps_fit w opening call note reply pages after page c lawful within may stays moves given fit =
-    answer_keeps_fit w opening call note reply pages after page c lawful within may.0 stays moves given fit
+    (subst (λ ps. IsFit (state_of w) opening page (get_or ps page no_page) c) (sym changes) fit)
+event_keeps_fit w opening call note reply pages after page c lawful within may stays changes given fit =
+    answer_keeps_fit w opening call note reply pages after page c lawful within may.0 stays changes given fit

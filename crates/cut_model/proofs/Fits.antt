@@ -1,20 +1,18 @@
 -- Fit copies: the frame as it stands is fit, and a fit copy keeps a cut sound.
-use Rattle.std.proofs.Common.{◌≡◌, ℕ, ◌+◌, ◌<◌, ◌≤◌, ◌-◌, Bool, true, false, not, cond, List, [], ◌∷◌, ◌++◌, length, get_or, set, Option, Some, None, refl, sym, subst, ap, ◌∙◌, ◌⊎◌, inl, inr, arith, ltb}
-use Rattle.std.specs.List.{find, filter, AllByRecursion}
-use Rattle.std.specs.Option.{is_some, IfSome, IsSomeAnd}
-use Rattle.std.proofs.lemmas.Bool.{cases_Bool, cases_eq}
+use Rattle.std.proofs.Common.{◌≡◌, ℕ, ◌<◌, ◌≤◌, Bool, true, false, cond, List, [], ◌∷◌, ◌++◌, length, get_or, set, Option, Some, None, refl, sym, subst, ◌⊎◌, inl, inr, arith, ltb}
+use Rattle.std.specs.List.{AllByRecursion}
+use Rattle.std.specs.Option.{IfSome, IsSomeAnd}
+use Rattle.std.proofs.lemmas.Bool.{cases_eq}
 use borrow.Author.Tests.{ltb-false}
 use Rattle.std.proofs.lemmas.List.{get_or-set_same, get_or-set_other, length-set}
 use Rattle.object_graph.specs.SlotParts.{SlotParts}
-use Rattle.store_model.specs.Worlds.{World, Transaction, Opening, view}
+use Rattle.store_model.specs.Worlds.{World, Transaction, Opening}
 use Rattle.store_model.specs.Causes.{has_page}
-use Rattle.store_model.proofs.Members.{In}
 use Rattle.store_model.proofs.Lists.{find_in}
 use Rattle.store_model.specs.Lawful.{IsOrderly}
-use Rattle.store_model.specs.Images.{shown_of, shown_in, shown}
 use Rattle.cut_model.specs.States.{State, state_of, KeepsOpening, shown_by}
-use Rattle.cut_model.specs.CutPages.{Copied, Changed, CutPage, no_page, committed_image, settled_with, settled_image, images_of_copy, images_of_change, images_of, kept_beside, with_copy}
-use Rattle.cut_model.specs.Sound.{IsSafeImage, IsSoundPage, IsSound, IsFitCopy, IsFit}
+use Rattle.cut_model.specs.CutPages.{Copied, Changed, CutPage, no_page, committed_image, settled_with, images_of_copy, images_of_change, kept_beside, with_copy}
+use Rattle.cut_model.specs.Sound.{IsSafeImage, IsSoundPage, IsSound, IsFitCopy}
 use Rattle.cut_model.specs.Frames.{writer_of, copy_with, copy_now}
 use Rattle.cut_model.proofs.Views.{committed_safe, view_safe}
 

@@ -1,9 +1,9 @@
 -- What a call of a transaction does to the image of a page in its view, and what a sweep does to it.
-use Rattle.std.proofs.Common.{◌≡◌, ◌≢◌, ℕ, zero, suc, ◌+◌, ◌<◌, ◌==◌, Bool, true, false, not, ◌&&◌, ◌||◌, cond, List, [], ◌∷◌, ◌++◌, map, length, get_or, set, Option, Some, None, replicate, append-nil, refl, sym, subst, ap, ◌∙◌, ◌⊎◌, inl, inr, arith}
+use Rattle.std.proofs.Common.{◌≡◌, ◌≢◌, ℕ, suc, ◌<◌, ◌==◌, Bool, true, false, not, ◌||◌, cond, List, [], ◌∷◌, ◌++◌, map, length, get_or, set, None, replicate, append-nil, refl, sym, subst, ap, ◌∙◌, inl, inr, arith}
 use Rattle.std.specs.List.{list_any, filter, slice_set, AllByRecursion}
 use Rattle.std.specs.Bool.{IsTrue}
-use Rattle.std.proofs.lemmas.Bool.{and_parts, and_from, cases_Bool, cases_eq, cases_lt, eqb-true, eq-eqb, not-true, not-false}
-use Rattle.std.proofs.lemmas.List.{length-map, length-set, get_or-set_same, get_or-set_other, get_or_past, map-append}
+use Rattle.std.proofs.lemmas.Bool.{and_parts, and_from, cases_Bool, cases_eq, eqb-true, eq-eqb}
+use Rattle.std.proofs.lemmas.List.{length-map, length-set, get_or-set_same, get_or-set_other, map-append}
 use Rattle.std.proofs.lemmas.List.Elements.{filter-append}
 use Rattle.store_model.proofs.Lists.{any_false_filter}
 use Rattle.store_model.specs.Causes.{has_page}
@@ -13,19 +13,24 @@ use Rattle.object_graph.specs.NameParts.{NameParts}
 use Rattle.object_graph.specs.Names.{name_eq}
 use Rattle.object_graph.specs.SlotParts.{SlotParts}
 use Rattle.object_graph.specs.declared.names.Object.{Object}
-use Rattle.object_graph.specs.Graphs.{has_name, has_object, is_at, objects_at}
+use Rattle.object_graph.specs.Graphs.{has_name, is_at, objects_at}
 use Rattle.object_graph.specs.Slots.{below}
 use Rattle.store_model.specs.Images.{slot_with, shown_slot}
 use Rattle.store_model.specs.Worlds.{World, Transaction, slots_of, fields_of, Write, link, assign, starts, view, with_writes, written_by, new_object}
 use Rattle.store_model.specs.Steps.{writes, makes}
 use Rattle.store_model.proofs.Members.{In, in_filter, filter_in, in_map, each_in, or_left, or_right}
-use Rattle.store_model.proofs.Paths.{name_of, name_eq_same, name_eq_refl}
+use Rattle.store_model.proofs.Paths.{name_eq_same, name_eq_refl}
 use Rattle.store_model.proofs.Places.{map_of_map, filter_of_map}
 use Rattle.store_model.proofs.Reach.{name-written_by, name-with_writes}
 use Rattle.store_model.specs.Worlds.{is_unfreed}
-use Rattle.store_model.specs.Images.{shown_of, shown_in, shown}
-use Rattle.cut_model.specs.States.{unfreed_at, generation_at, shown_by}
+use Rattle.store_model.specs.Images.{shown_of, shown_in}
+use Rattle.cut_model.specs.States.{unfreed_at}
 use Rattle.cut_model.specs.Images.{no_slot}
+use Rattle.cut_model.specs.Frames.{written_slot, written_name, freed_slot}
+use Rattle.store_model.specs.Lawful.{CountsUp, OnlyLastUnfreed, IsLastOfPlace, IsOrderly}
+use Rattle.store_model.proofs.Orders.{lawful_one, placed_one}
+use Rattle.store_model.proofs.Committed.{view_is_orderly}
+use Rattle.cut_model.proofs.Shown.{one_each, in_unfreed_at}
 use Rattle.cut_model.proofs.Flats.{get-map_below, length-map_below}
 use Rattle.store_model.proofs.Places.{objects_at-map}
 use Rattle.cut_model.proofs.Views.{unfreed_at-map}
@@ -59,15 +64,6 @@ one_slot_differs f g n slot s e h =
     ]))
 
 -- ---- a write
-
--- a slot after a write to the object in it
-abbrev pub written_slot : Write → SlotParts → SlotParts
-written_slot (link name field target) s = record s { refs = slice_set s.refs field target }
-written_slot (assign name value) s = record s { number = value }
-
-abbrev pub written_name : Write → NameParts
-written_name (link name field target) = name
-written_name (assign name value) = name
 
 -- the view after a write
 view_written : (w : World) (t : Transaction) (write : Write) (page : ℕ) → view w (writes write page t) ≡ map (written_by write) (view w t)
@@ -178,10 +174,6 @@ filter_none_in : {A : Type 0} (p : A → Bool) (xs : List A) → ((x : A) → In
 filter_none_in p [] h = refl
 filter_none_in p (x ∷ xs) h = ap (λ b. cond b (x ∷ filter p xs) (filter p xs)) (h x (inl refl)) ∙ filter_none_in p xs (λ y m. h y (inr m))
 
--- a slot that was freed keeps its generation
-abbrev pub freed_slot : ℕ → SlotParts → SlotParts
-freed_slot fields s = record s { in_use = false; number = 0; refs = replicate fields None }
-
 freed_with : (fields : ℕ) (os : List Object) (o : Object) (names : ℕ) → In o os → ((a b : Object) → In a os → In b os → a ≡ b) → o.name.generation ≡ names → slot_with fields [] names ≡ freed_slot fields (slot_with fields os names)
 freed_with fields [] o names m one e = absurd m
 freed_with fields (h ∷ hs) o names m one e =
@@ -211,6 +203,27 @@ sweep_leaves_slot fields graph freed names page slot away =
       | inl e ↦ or_right (has_name names x.name) (has_name freed x.name) e ∙ sym e
       | inr e ↦ ap (λ b. b || has_name freed x.name) (away x (filter_in (is_unfreed freed) (objects_at graph page slot) x i (ap not e)))
     ]))))
+
+-- ---- the same, in a graph that counts up
+
+pub write_changes_one_slot : (w : World) (t : Transaction) (write : Write) (page : ℕ) (o : Object) → CountsUp (view w t) → OnlyLastUnfreed (view w t) w.freed → In o (view w t)
+    → is_unfreed w.freed o ≡ true → o.name ≡ written_name write → (written_name write).slot < slots_of w (written_name write).page
+    → shown_in w (view w (writes write page t)) (written_name write).page
+    ≡ set (shown_in w (view w t) (written_name write).page) (written_name write).slot
+    (written_slot write (get_or (shown_in w (view w t) (written_name write).page) (written_name write).slot no_slot))
+write_changes_one_slot w t write page o counts last m u named low =
+    write_changes_slot w t write page o (subst (λ (n : NameParts). In o (unfreed_at (view w t) w.freed n.page n.slot)) named (in_unfreed_at (view w t) w.freed o m u))
+    (one_each (view w t) w.freed counts last (written_name write).page (written_name write).slot) named low
+
+pub sweep_frees_its_slot : (fields : ℕ) (graph : List Object) (freed names : List NameParts) (o : Object) → CountsUp graph → OnlyLastUnfreed graph freed → In o graph → is_unfreed freed o ≡ true
+    → has_name names o.name ≡ true
+    → shown_slot fields graph (names ++ freed) o.name.page o.name.slot ≡ freed_slot fields (shown_slot fields graph freed o.name.page o.name.slot)
+sweep_frees_its_slot fields graph freed names o counts last m u gone =
+    sweep_frees_slot fields graph freed names o.name.page o.name.slot o (in_unfreed_at graph freed o m u) (one_each graph freed counts last o.name.page o.name.slot)
+    (each_in (IsLastOfPlace graph) (filter (is_unfreed freed) graph) o last (filter_in (is_unfreed freed) graph o m u)) gone
+
+pub view_in_order : (w : World) (t : Transaction) → IsOrderly w → In t w.transactions → CountsUp (view w t) × OnlyLastUnfreed (view w t) w.freed
+view_in_order w t orderly m = let v = view_is_orderly w t w.commits orderly (lawful_one w t orderly m) (placed_one w t orderly m) in (v.counted, v.last)
 
 -- ---- a new object
 

@@ -1,36 +1,28 @@
 -- The world of a fresh store stands, so does the world after each history, and an ended cut has freed what was lost.
-use Rattle.std.proofs.Common.{◌≡◌, ℕ, zero, suc, ◌+◌, ◌<◌, ◌==◌, Bool, true, false, not, ◌&&◌, ◌||◌, cond, List, [], ◌∷◌, ◌++◌, map, length, replicate, Option, Some, None, refl, sym, subst, ap, ◌∙◌, inl, inr, arith}
-use Rattle.std.specs.List.{list_any, find, filter, AllByRecursion}
-use Rattle.std.specs.Bool.{IsTrue}
+use Rattle.std.proofs.Common.{◌≡◌, ℕ, ◌<◌, Bool, true, not, List, [], ◌∷◌, Option, Some, None, refl, sym, subst, arith}
+use Rattle.std.specs.List.{find}
 use Rattle.std.specs.Option.{unwrap_or, option_map, MatchOption}
-use Rattle.std.proofs.lemmas.Bool.{and_parts, cases_Bool, not-false}
+use Rattle.std.proofs.lemmas.Bool.{not-false}
 use Rattle.object_graph.specs.NameParts.{NameParts}
-use Rattle.object_graph.specs.Names.{name_eq, root_name}
-use Rattle.object_graph.specs.declared.names.Object.{Object}
 use Rattle.object_graph.specs.declared.calls.Call.TheVariants.{EndCut}
 use Rattle.object_graph.specs.declared.calls.Phase.{Phase}
 use Rattle.object_graph.specs.declared.calls.Phase.TheVariants.{Copying, Closed, Sweeping}
-use Rattle.object_graph.specs.declared.calls.Refusal.{Refusal}
 use Rattle.object_graph.specs.declared.calls.Refusal.TheVariants.{NoCut, Unswept}
-use Rattle.object_graph.specs.Graphs.{has_object, is_at, is_to, objects_at, refers}
 use Rattle.object_graph.specs.Slots.{below}
-use Rattle.store_model.specs.Worlds.{World, OpenedCut, Note, Event, fresh_world, is_freed, IsReached}
+use Rattle.store_model.specs.Worlds.{World, OpenedCut, Note, Event, fresh_world, is_freed}
 use Rattle.store_model.specs.Causes.{has_page, first_met, first_refusal, broken, is_phase, wrong_phase, missing, unswept}
-use Rattle.store_model.specs.Replies.{Allows}
 use Rattle.store_model.specs.Steps.{next}
 use Rattle.store_model.specs.Histories.{after, IsLegal}
 use Rattle.store_model.specs.Worlds.{IsOutOfReach}
-use Rattle.store_model.specs.Lawful.{generations_at}
-use Rattle.store_model.proofs.Members.{In, each_in}
+use Rattle.store_model.proofs.Members.{each_in}
 use Rattle.store_model.proofs.Lawfulness.{fresh_is_lawful_world}
 use Rattle.store_model.proofs.Paths.{has_name_in}
-use Rattle.store_model.specs.Lawful.{IsOrderly}
 use Rattle.store_model.specs.Worlds.{IsLost}
 use Rattle.cut_model.specs.CutPages.{CutPage}
-use Rattle.cut_model.specs.Standing.{IsCutStanding, IsInPhase, IsStanding, Turns}
+use Rattle.cut_model.specs.Standing.{IsCutStanding, IsInPhase, IsStanding, TurnsThrough}
 use Rattle.cut_model.proofs.Flats.{in_below}
 use Rattle.cut_model.proofs.Sweeps.{lost_is_freed}
-use Rattle.cut_model.proofs.Standing.{cut_none, right_phase, find_none_each, event_stands}
+use Rattle.cut_model.proofs.Phases.{cut_none, right_phase, find_none_each, event_stands}
 
 -- ---- the fresh store
 
@@ -38,11 +30,6 @@ pub fresh_stands : (pages : ℕ) → 0 < pages → IsStanding (fresh_world pages
 fresh_stands pages some = record { lawful = fresh_is_lawful_world pages some; cut = tt }
 
 -- ---- a history
-
--- the pages of the cut, from event to event
-abbrev pub TurnsThrough : World → List CutPage → List Event → List CutPage → Type 0
-TurnsThrough w pages [] last = last ≡ pages
-TurnsThrough w pages (e ∷ events) last = (after : List CutPage) × Turns w e.entry.call e.entry.reply pages after × TurnsThrough (next w e) after events last
 
 pub history_stands : (w : World) (pages : List CutPage) (events : List Event) (last : List CutPage) → IsStanding w pages → IsLegal w events → TurnsThrough w pages events last
     → IsStanding (after w events) last

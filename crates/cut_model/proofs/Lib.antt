@@ -8,9 +8,10 @@ pub mod Commits
 pub mod Events
 pub mod Openings
 pub mod Sweeps
-pub mod Standing
+pub mod Phases
 pub mod Headline
 pub mod Places
 pub mod Turning
 pub mod FrameSteps
 pub mod Courses
+pub mod Scripts

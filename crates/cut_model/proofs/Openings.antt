@@ -1,38 +1,28 @@
 -- What each event keeps of a cut's opening.
-use Rattle.std.proofs.Common.{◌≡◌, ℕ, zero, suc, ◌+◌, ◌==◌, Bool, true, false, not, ◌&&◌, cond, List, [], ◌∷◌, ◌++◌, length, get_or, replicate, Option, Some, None, refl, sym, subst, ap, ◌∙◌, ◌⊎◌, inl, inr}
-use Rattle.std.specs.List.{find, filter, AllByRecursion}
-use Rattle.std.specs.Bool.{IsTrue}
-use Rattle.std.specs.Option.{unwrap_or}
-use Rattle.std.proofs.lemmas.Bool.{and_parts, and_from, cases_Bool, not-true}
+use Rattle.std.proofs.Common.{◌≡◌, ℕ, zero, suc, ◌==◌, false, not, get_or, replicate, None, refl, sym, subst, ap, ◌∙◌, ◌⊎◌, inl, inr}
+use Rattle.std.specs.List.{filter}
+use Rattle.std.proofs.lemmas.Bool.{and_from}
 use Rattle.std.proofs.lemmas.Nat.Bits.{bit_at-zero}
-use Rattle.object_graph.specs.NameParts.{NameParts}
-use Rattle.object_graph.specs.Names.{root_name}
 use Rattle.object_graph.specs.Slots.{has_slot}
-use Rattle.object_graph.specs.declared.names.Object.{Object}
 use Rattle.object_graph.specs.declared.calls.Call.{Call}
 use Rattle.object_graph.specs.declared.calls.Call.TheVariants.{New, Commit, Sweep, Reopen}
 use Rattle.object_graph.specs.declared.calls.Reply.{Reply}
 use Rattle.object_graph.specs.declared.calls.Reply.TheVariants.{Refused}
-use Rattle.object_graph.specs.Graphs.{has_object, has_name, refers, IsReachedFrom}
-use Rattle.store_model.specs.Worlds.{World, Transaction, Opening, Note, Doubt, no_doubt, commit_in_doubt, sweep_in_doubt, starts, view, is_freed, find_transaction, transaction, fresh_transaction, IsReached}
+use Rattle.object_graph.specs.Graphs.{has_object}
+use Rattle.store_model.specs.Worlds.{World, Transaction, Opening, Note, is_freed, transaction}
 use Rattle.store_model.specs.Causes.{first_refusal, new_name}
-use Rattle.store_model.specs.Replies.{AllowsReply, names_in, found_in}
-use Rattle.store_model.specs.Steps.{after_refusal, after_answer, after_reply, opening_of, opened, slots_freed, commits_found, graph_in_doubt, reopened}
-use Rattle.store_model.specs.Worlds.{IsOutOfReach}
-use Rattle.store_model.proofs.Members.{In, append_right, in_filter, each_from}
-use Rattle.store_model.proofs.Paths.{has_name_in, in_has_name, in_has_object, reached_more}
-use Rattle.store_model.proofs.Reach.{IsSafeView}
-use Rattle.store_model.proofs.Cuts.{refers_from}
-use Rattle.store_model.specs.Lawful.{KeepsLost, IsOrderly}
-use Rattle.store_model.specs.Worlds.{is_unfreed, is_old, IsLost}
+use Rattle.store_model.specs.Replies.{AllowsReply}
+use Rattle.store_model.specs.Steps.{after_answer, after_reply, opening_of}
+use Rattle.store_model.proofs.Members.{In, in_filter, each_from}
+use Rattle.store_model.proofs.Paths.{in_has_object}
+use Rattle.store_model.specs.Lawful.{IsOrderly}
+use Rattle.store_model.specs.Worlds.{is_unfreed}
 use Rattle.cut_model.specs.States.{State, state_of, state_after, generation_at, KeepsOpening}
-use Rattle.cut_model.specs.CutPages.{CutPage, no_page}
+use Rattle.cut_model.specs.CutPages.{no_page}
 use Rattle.cut_model.specs.Sound.{IsBornRight, IsSoundPage, IsSound}
-use Rattle.cut_model.specs.Moves.{ends_copying}
+use Rattle.cut_model.specs.Changes.{ends_copying}
 use Rattle.store_model.proofs.Keeps.{opening_keeps_lost, event_keeps_lost}
-use Rattle.store_model.proofs.OutOfReach.{safe_one, unreached_is_out, Follows, name_stays, out_stays}
 use Rattle.cut_model.proofs.Views.{view_keeps_names}
-use Rattle.store_model.proofs.Lists.{find_in}
 use Rattle.store_model.proofs.Opened.{commit_is_open}
 use Rattle.cut_model.proofs.Events.{state-with_new, state-after_refusal}
 

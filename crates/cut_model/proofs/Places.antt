@@ -1,7 +1,6 @@
 -- Places and names: in a sound cut a place has one name, so sets of slots stand for names.
-use Rattle.std.proofs.Common.{◌≡◌, ◌↔◌, ℕ, ◌<◌, ◌≤◌, ◌==◌, Bool, true, false, not, ◌&&◌, List, [], ◌∷◌, length, get_or, Option, Some, None, refl, sym, subst, ap, ◌∙◌, inl, inr, arith}
-use Rattle.std.specs.Bool.{IsTrue}
-use Rattle.std.proofs.lemmas.Bool.{and_parts, and_from, cases_Bool, cases_lt, not-true}
+use Rattle.std.proofs.Common.{◌≡◌, ℕ, ◌<◌, Bool, true, false, not, ◌&&◌, List, [], ◌∷◌, length, get_or, Some, refl, sym, subst, ap, ◌∙◌, inl, inr}
+use Rattle.std.proofs.lemmas.Bool.{and_parts, and_from, cases_Bool, cases_lt}
 use Rattle.std.proofs.lemmas.List.{get_or_past}
 use Rattle.object_graph.specs.NameParts.{NameParts}
 use Rattle.object_graph.specs.Names.{root_name}
@@ -20,7 +19,7 @@ use Rattle.cut_model.specs.CutPages.{CutPage, no_page, settled_image, cut_graph,
 use Rattle.cut_model.specs.Sound.{IsSafeObject}
 use Rattle.cut_model.specs.Doomed.{IsDoomed, AreDoomedOn, AreMarks, is_used, is_doomed}
 use Rattle.cut_model.proofs.Flats.{in_objects_of, objects_of_in}
-use Rattle.cut_model.proofs.Shown.{OneEach, one_each, in_unfreed_at}
+use Rattle.cut_model.proofs.Shown.{one_each, in_unfreed_at}
 use Rattle.cut_model.proofs.CutGraphs.{settled_in, in_cut_graph}
 use Rattle.store_model.proofs.Committed.{path_last}
 
@@ -46,7 +45,7 @@ root_place w lawful =
     let o : Object = a.0 in
     let u : is_unfreed w.freed o ≡ true = subst (λ n. not (has_name w.freed n) ≡ true) (sym a.2) r.1 in
     let m : In o (unfreed_at w.graph w.freed 0 0) = subst (λ (n : NameParts). In o (unfreed_at w.graph w.freed n.page n.slot)) a.2 (in_unfreed_at w.graph w.freed o a.1 u) in
-    first_generation (unfreed_at w.graph w.freed 0 0) (length (objects_at w.graph 0 0)) o m (one_each w lawful.counted lawful.last 0 0)
+    first_generation (unfreed_at w.graph w.freed 0 0) (length (objects_at w.graph 0 0)) o m (one_each w.graph w.freed lawful.counted lawful.last 0 0)
     ∙ ap (λ (n : NameParts). n.generation) a.2
 
 -- a slot in use is one of the image

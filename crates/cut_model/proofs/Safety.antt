@@ -1,30 +1,29 @@
 -- What the marks of a closed sound cut leave is garbage, and all that was lost is left.
-use Rattle.std.proofs.Common.{◌≡◌, ℕ, ◌<◌, Bool, true, false, not, ◌&&◌, ◌==◌, List, [], ◌∷◌, length, get_or, Some, None, refl, sym, subst, ap, ◌∙◌, inl, inr, arith}
+use Rattle.std.proofs.Common.{◌≡◌, ℕ, ◌<◌, true, false, not, ◌&&◌, List, [], ◌∷◌, length, get_or, Some, refl, sym, subst, ap, ◌∙◌, inl, inr, arith}
 use Rattle.std.specs.List.{list_any, filter, AllByRecursion}
-use Rattle.std.specs.Bool.{IsTrue}
-use Rattle.std.proofs.lemmas.Bool.{and_parts, and_from, cases_Bool, not-true, not-false}
+use Rattle.std.proofs.lemmas.Bool.{and_parts, cases_Bool, not-false}
 use Rattle.object_graph.specs.NameParts.{NameParts}
 use Rattle.object_graph.specs.Names.{name_eq}
 use Rattle.object_graph.specs.SlotParts.{SlotParts}
 use Rattle.object_graph.specs.Slots.{has_slot}
 use Rattle.object_graph.specs.declared.names.Object.{Object}
-use Rattle.object_graph.specs.Graphs.{has_name, has_object, is_to, refers, IsPath, IsReachedFrom}
-use Rattle.store_model.specs.Worlds.{World, Opening, OpenedCut, starts, is_freed, IsReached, IsHeldBy}
+use Rattle.object_graph.specs.Graphs.{has_name, has_object, is_to, IsPath}
+use Rattle.store_model.specs.Worlds.{World, Opening, starts, is_freed, IsReached}
 use Rattle.store_model.specs.Worlds.{IsOutOfReach}
 use Rattle.store_model.specs.Lawful.{IsPlaced}
 use Rattle.store_model.specs.Worlds.{slots_of, fields_of}
 use Rattle.store_model.proofs.Members.{In, any_in, in_any, each_in, filter_in}
-use Rattle.store_model.proofs.Paths.{name_eq_same, name_eq_refl, has_name_in, has_object_in, in_has_object, reached_more, path_first}
+use Rattle.store_model.proofs.Paths.{name_eq_same, has_name_in, has_object_in, in_has_object, reached_more, path_first}
 use Rattle.store_model.proofs.OutOfReach.{unreached_is_out}
 use Rattle.store_model.specs.Lawful.{KeepsLost}
 use Rattle.store_model.specs.Worlds.{is_unfreed, is_old, IsLost}
-use Rattle.store_model.specs.Images.{shown_of, shown_in, shown}
-use Rattle.cut_model.specs.States.{State, state_of, KeepsOpening, shown_by}
+use Rattle.store_model.specs.Images.{shown}
+use Rattle.cut_model.specs.States.{State, state_of}
 use Rattle.cut_model.specs.Images.{objects_of}
-use Rattle.cut_model.specs.CutPages.{CutPage, no_page, settled_image, images_of, cut_graph, IsMarked}
-use Rattle.cut_model.specs.Sound.{IsSafeObject, IsBornRight, IsSoundPage, IsSound, IsClosedBeside}
+use Rattle.cut_model.specs.CutPages.{CutPage, no_page, settled_image, cut_graph, IsMarked}
+use Rattle.cut_model.specs.Sound.{IsBornRight, IsSound, IsClosedBeside}
 use Rattle.cut_model.specs.Doomed.{IsDoomed, IsSafeToFree, KeepsDoomed}
-use Rattle.cut_model.proofs.Shown.{OneEach, one_each, IsShown, in_shown, shows_object}
+use Rattle.cut_model.proofs.Shown.{one_each, in_shown, shows_object}
 use Rattle.cut_model.proofs.CutGraphs.{settled_in, settled_shown, in_cut_graph, cut_graph_safe}
 
 -- what is reached isn't freed
@@ -43,7 +42,7 @@ settled_has w opening pages o closed m u =
     let within : o.name.page < length pages = let p = placed.0 in let e = closed.all in omega arith in (
       within,
       settled_shown (state_of w) opening o.name.page (get_or pages o.name.page no_page) (closed.sound o.name.page within) (closed.copied o.name.page within),
-      shows_object (slots_of w o.name.page) (fields_of w o.name.page) w.graph w.freed o (one_each w closed.orderly.counted closed.orderly.last) m u placed.1,
+      shows_object (slots_of w o.name.page) (fields_of w o.name.page) w.graph w.freed o (one_each w.graph w.freed closed.orderly.counted closed.orderly.last) m u placed.1,
     )
 
 -- so it is in the graph of the cut

@@ -1,22 +1,21 @@
 -- What the image of a page shows of a graph.
-use Rattle.std.proofs.Common.{◌≡◌, ℕ, zero, suc, ◌+◌, ◌<◌, ◌==◌, true, false, not, ◌&&◌, List, [], ◌∷◌, ◌++◌, map, length, get_or, refl, sym, subst, ap, ◌∙◌, inl, inr, arith}
+use Rattle.std.proofs.Common.{◌≡◌, ℕ, zero, suc, ◌<◌, ◌==◌, true, List, [], ◌∷◌, ◌++◌, map, length, get_or, refl, sym, subst, ap, ◌∙◌, inl, inr, arith}
 use Rattle.std.specs.List.{filter}
 use Rattle.std.proofs.lemmas.Bool.{and_parts, and_from, eqb-true, eq-eqb}
 use Rattle.std.proofs.lemmas.List.{map-append}
 use Rattle.object_graph.specs.NameParts.{NameParts}
 use Rattle.object_graph.specs.SlotParts.{SlotParts}
 use Rattle.object_graph.specs.declared.names.Object.{Object}
-use Rattle.object_graph.specs.Graphs.{has_name, is_at, objects_at}
+use Rattle.object_graph.specs.Graphs.{is_at, objects_at}
 use Rattle.object_graph.specs.Slots.{below}
 use Rattle.store_model.specs.Images.{slot_with, shown_slot}
-use Rattle.store_model.specs.Worlds.{World}
 use Rattle.store_model.specs.Lawful.{CountsUp, OnlyLastUnfreed}
 use Rattle.store_model.proofs.Members.{In, in_append, in_filter, filter_in, in_map, map_in, each_in}
 use Rattle.store_model.proofs.Paths.{name_of}
 use Rattle.store_model.proofs.Cuts.{below_bound}
 use Rattle.store_model.specs.Worlds.{is_unfreed}
-use Rattle.store_model.specs.Images.{shown_of, shown_in, shown}
-use Rattle.cut_model.specs.States.{unfreed_at, generation_with, generation_at, shown_by}
+use Rattle.store_model.specs.Images.{shown_of}
+use Rattle.cut_model.specs.States.{unfreed_at, generation_with, generation_at}
 use Rattle.cut_model.specs.Images.{no_slot, object_in, objects_of}
 use Rattle.cut_model.proofs.Flats.{IsInSlot, in_objects_of, objects_of_in, get-map_below, length-map_below}
 
@@ -70,19 +69,19 @@ one_of (o ∷ os) a b h i j e = elim i [
 abbrev pub OneEach : List Object → List NameParts → Type 0
 OneEach graph freed = (page slot : ℕ) (a b : Object) → In a (unfreed_at graph freed page slot) → In b (unfreed_at graph freed page slot) → a ≡ b
 
-pub one_each : (w : World) → CountsUp w.graph → OnlyLastUnfreed w.graph w.freed → OneEach w.graph w.freed
-one_each w counts last = λ page slot a b i j.
-    let p = in_filter (is_unfreed w.freed) (objects_at w.graph page slot) a i in
-    let q = in_filter (is_unfreed w.freed) (objects_at w.graph page slot) b j in
-    one_of (objects_at w.graph page slot) a b (subst AreApart (sym (counts page slot)) (apart_below (length (objects_at w.graph page slot)))) p.0 q.0
+pub one_each : (graph : List Object) (freed : List NameParts) → CountsUp graph → OnlyLastUnfreed graph freed → OneEach graph freed
+one_each graph freed counts last = λ page slot a b i j.
+    let p = in_filter (is_unfreed freed) (objects_at graph page slot) a i in
+    let q = in_filter (is_unfreed freed) (objects_at graph page slot) b j in
+    one_of (objects_at graph page slot) a b (subst AreApart (sym (counts page slot)) (apart_below (length (objects_at graph page slot)))) p.0 q.0
     (last_at page slot a p.0 p.1 ∙ sym (last_at page slot b q.0 q.1))
   where
-    last_at : (page slot : ℕ) (o : Object) → In o (objects_at w.graph page slot) → is_unfreed w.freed o ≡ true → o.name.generation ≡ length (objects_at w.graph page slot)
+    last_at : (page slot : ℕ) (o : Object) → In o (objects_at graph page slot) → is_unfreed freed o ≡ true → o.name.generation ≡ length (objects_at graph page slot)
     last_at page slot o m u =
-        let g = in_filter (λ (o : Object). is_at page slot o.name) w.graph o m in
+        let g = in_filter (λ (o : Object). is_at page slot o.name) graph o m in
         let at = and_parts (o.name.page == page) (o.name.slot == slot) g.1 in
-        let e = each_in (λ (o : Object). o.name.generation ≡ length (objects_at w.graph o.name.page o.name.slot)) (filter (is_unfreed w.freed) w.graph) o last (filter_in (is_unfreed w.freed) w.graph o g.0 u) in
-        e ∙ (ap (λ p. length (objects_at w.graph p o.name.slot)) (eqb-true o.name.page page at.0) ∙ ap (λ s. length (objects_at w.graph page s)) (eqb-true o.name.slot slot at.1))
+        let e = each_in (λ (o : Object). o.name.generation ≡ length (objects_at graph o.name.page o.name.slot)) (filter (is_unfreed freed) graph) o last (filter_in (is_unfreed freed) graph o g.0 u) in
+        e ∙ (ap (λ p. length (objects_at graph p o.name.slot)) (eqb-true o.name.page page at.0) ∙ ap (λ s. length (objects_at graph page s)) (eqb-true o.name.slot slot at.1))
 
 -- ---- what is shown
 

@@ -1,30 +1,24 @@
 -- What sweeps free, and what they leave.
-use Rattle.std.proofs.Common.{◌≡◌, ◌↔◌, ℕ, zero, suc, ◌+◌, ◌<◌, ◌==◌, Bool, true, false, not, ◌&&◌, ◌||◌, cond, List, [], ◌∷◌, ◌++◌, map, length, get_or, Option, Some, None, refl, sym, subst, ap, ◌∙◌, ◌⊎◌, inl, inr, arith}
-use Rattle.std.specs.List.{list_all, filter, AllByRecursion}
-use Rattle.std.specs.Bool.{IsTrue}
-use Rattle.std.proofs.lemmas.Bool.{and_parts, and_from, cases_Bool, eqb-true, eq-eqb, not-true}
+use Rattle.std.proofs.Common.{◌≡◌, ℕ, ◌<◌, ◌==◌, Bool, true, false, not, ◌&&◌, ◌||◌, cond, List, [], ◌∷◌, ◌++◌, map, length, refl, sym, subst, ap, ◌∙◌, inl, inr}
+use Rattle.std.specs.List.{list_all, filter}
+use Rattle.std.proofs.lemmas.Bool.{and_from, cases_Bool, eqb-true, eq-eqb, not-true}
 use Rattle.object_graph.specs.NameParts.{NameParts}
-use Rattle.object_graph.specs.SlotParts.{SlotParts}
 use Rattle.object_graph.specs.Slots.{has_slot}
 use Rattle.object_graph.specs.declared.names.Object.{Object}
-use Rattle.object_graph.specs.declared.calls.Call.{Call}
-use Rattle.object_graph.specs.declared.calls.Reply.{Reply}
-use Rattle.object_graph.specs.Graphs.{has_name, has_object, is_at, objects_at}
+use Rattle.object_graph.specs.Graphs.{has_name, objects_at}
 use Rattle.object_graph.specs.Slots.{below, slots_in}
-use Rattle.store_model.specs.Worlds.{World, Opening, OpenedCut, Note, starts, is_freed, unfreed, IsLost}
+use Rattle.store_model.specs.Worlds.{World, Opening, OpenedCut, starts, is_freed, unfreed, IsLost}
 use Rattle.store_model.specs.Causes.{has_page}
-use Rattle.store_model.specs.Replies.{AllowsReply, names_in, IsGarbage, MayFree}
+use Rattle.store_model.specs.Replies.{names_in, IsGarbage, MayFree}
 use Rattle.store_model.specs.Steps.{with_page, swept}
-use Rattle.store_model.specs.Worlds.{IsOutOfReach}
-use Rattle.store_model.specs.Lawful.{CountsUp}
-use Rattle.store_model.proofs.Members.{In, append_left, append_right, in_append, in_filter, filter_in, in_map, map_in, each_in, each_from}
-use Rattle.store_model.proofs.Paths.{name_of, has_name_in, in_has_name, has_object_in}
+use Rattle.store_model.proofs.Members.{In, append_left, append_right, in_append, in_filter, filter_in, in_map, map_in, each_from}
+use Rattle.store_model.proofs.Paths.{has_name_in, in_has_name, has_object_in}
 use Rattle.store_model.specs.Lawful.{IsOrderly}
-use Rattle.store_model.specs.Worlds.{is_unfreed, is_old, IsLost}
+use Rattle.store_model.specs.Worlds.{is_unfreed, IsLost}
 use Rattle.cut_model.specs.States.{unfreed_at}
 use Rattle.cut_model.specs.CutPages.{CutPage}
-use Rattle.cut_model.specs.Doomed.{IsDoomed, IsSafeToFree, KeepsDoomed, AreDoomedOn}
-use Rattle.cut_model.proofs.Shown.{AreApart, apart_below, generation_of, OneEach, one_each, in_unfreed_at}
+use Rattle.cut_model.specs.Doomed.{IsSafeToFree, KeepsDoomed, AreDoomedOn}
+use Rattle.cut_model.proofs.Shown.{AreApart, apart_below, generation_of, one_each, in_unfreed_at}
 use Rattle.store_model.proofs.Keeps.{in_names_in}
 use Rattle.store_model.proofs.OutOfReach.{Follows, name_stays, out_stays}
 
@@ -56,7 +50,7 @@ one_unfreed w page slot o lawful m =
     just_one (unfreed_at w.graph w.freed page slot) o m
     (apart_filter (is_unfreed w.freed) (objects_at w.graph page slot)
     (subst AreApart (sym (lawful.counted page slot)) (apart_below (length (objects_at w.graph page slot)))))
-    (λ a b. one_each w lawful.counted lawful.last page slot a b)
+    (λ a b. one_each w.graph w.freed lawful.counted lawful.last page slot a b)
 
 -- ---- a sweep of the doomed slots is allowed
 
@@ -100,7 +94,7 @@ doomed_may_be_freed w cut pages page slots lawful keeps unswept doomed = record 
       let there : In q.0 (unfreed_at w.graph w.freed page o.name.slot) =
       subst (λ p. In q.0 (unfreed_at w.graph w.freed p o.name.slot)) n.2 (subst (λ s. In q.0 (unfreed_at w.graph w.freed (n.0).page s)) n.3 q.1) in
       let here : In o (unfreed_at w.graph w.freed page o.name.slot) = subst (λ p. In o (unfreed_at w.graph w.freed p o.name.slot)) a.3 (in_unfreed_at w.graph w.freed o a.1 a.2) in
-      let same : q.0 ≡ o = one_each w lawful.counted lawful.last page o.name.slot q.0 o there here in
+      let same : q.0 ≡ o = one_each w.graph w.freed lawful.counted lawful.last page o.name.slot q.0 o there here in
       let is : n.0 ≡ name = sym q.2 ∙ (ap (λ (x : Object). x.name) same ∙ sym a.5) in
       let garbage : IsGarbage w cut.opening n.0 = record { old = safe.old; out = safe.out } in
       subst (IsGarbage w cut.opening) is garbage);

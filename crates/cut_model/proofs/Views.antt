@@ -1,8 +1,8 @@
 -- The name of each place stays, also in the view of a transaction.
-use Rattle.std.proofs.Common.{◌≡◌, ℕ, zero, suc, ◌+◌, ◌<◌, ◌==◌, Bool, true, false, not, ◌&&◌, cond, List, [], ◌∷◌, ◌++◌, map, length, Option, Some, None, refl, sym, subst, ap, ◌∙◌, ◌⊎◌, inl, inr, arith, append-nil, length-append}
+use Rattle.std.proofs.Common.{◌≡◌, ℕ, ◌+◌, ◌<◌, ◌==◌, false, not, ◌&&◌, cond, List, [], ◌∷◌, ◌++◌, map, length, refl, sym, subst, ap, ◌∙◌, inl, inr, arith, append-nil}
 use Rattle.std.specs.List.{list_any, filter, AllByRecursion}
 use Rattle.std.specs.Bool.{IsTrue}
-use Rattle.std.proofs.lemmas.Bool.{and_parts, and_from, cases_Bool, eqb-true, not-true}
+use Rattle.std.proofs.lemmas.Bool.{and_parts, and_from, cases_Bool, eqb-true}
 use Rattle.std.proofs.lemmas.List.{length-map}
 use Rattle.std.proofs.lemmas.List.Elements.{filter-append}
 use Rattle.object_graph.specs.NameParts.{NameParts}
@@ -10,24 +10,22 @@ use Rattle.object_graph.specs.Names.{name_eq}
 use Rattle.object_graph.specs.declared.names.Object.{Object}
 use Rattle.object_graph.specs.Graphs.{has_name, has_object, is_at, is_to, refers, objects_at}
 use Rattle.store_model.specs.Worlds.{World, Transaction, Opening, slots_of, fields_of, starts, view, with_writes, new_object}
-use Rattle.store_model.specs.Causes.{name_at}
-use Rattle.store_model.specs.Worlds.{IsOutOfReach}
-use Rattle.store_model.specs.Lawful.{IsOwn, IsLawfulTransaction, CountsUp}
-use Rattle.store_model.proofs.Members.{In, in_any, in_filter, filter_in, each_in, each_from}
+use Rattle.store_model.specs.Lawful.{IsOwn, IsLawfulTransaction}
+use Rattle.store_model.proofs.Members.{In, in_any, in_filter, each_in, each_from}
 use Rattle.store_model.proofs.Paths.{name_eq_refl, has_name_in}
 use Rattle.store_model.proofs.Places.{filter_of_map, objects_at-map}
 use Rattle.store_model.proofs.Lists.{filter_same}
 use Rattle.store_model.proofs.Keeps.{view_kept}
-use Rattle.store_model.proofs.Reach.{name-with_writes, IsSafeView, IsOwnOrReached}
-use Rattle.store_model.proofs.Cuts.{next_name_is_new, view_refers}
+use Rattle.store_model.proofs.Reach.{name-with_writes}
+use Rattle.store_model.proofs.Cuts.{next_name_is_new}
 use Rattle.store_model.proofs.OutOfReach.{safe_one}
-use Rattle.store_model.specs.Lawful.{KeepsLost, IsOrderly}
-use Rattle.store_model.specs.Worlds.{is_unfreed, is_old, IsLost}
-use Rattle.store_model.specs.Images.{shown_of, shown_in, shown}
-use Rattle.cut_model.specs.States.{State, state_of, unfreed_at, generation_with, generation_at, KeepsOpening, shown_by}
+use Rattle.store_model.specs.Lawful.{IsOrderly}
+use Rattle.store_model.specs.Worlds.{is_unfreed, IsLost}
+use Rattle.store_model.specs.Images.{shown_in, shown}
+use Rattle.cut_model.specs.States.{unfreed_at, generation_with, generation_at, KeepsOpening}
 use Rattle.cut_model.specs.Images.{objects_of}
 use Rattle.cut_model.specs.Sound.{IsSafeObject, IsSafeImage}
-use Rattle.cut_model.proofs.Shown.{IsShown, in_shown}
+use Rattle.cut_model.proofs.Shown.{in_shown}
 
 -- ---- a change that keeps names keeps the name of each place
 

@@ -1,6 +1,5 @@
 -- The course of a cut, from its opening to its end.
 use Rattle.std.specs.Prelude.{◌≡◌, ◌≢◌, ℕ, ◌<◌, Some, List, ◌∷◌, ◌++◌}
-use Rattle.std.specs.List.{AllByRecursion}
 use Rattle.object_graph.specs.declared.calls.Call.{Call}
 use Rattle.object_graph.specs.declared.calls.Call.TheVariants.{Copy, HandIn, Close, Mark, Sweep, EndCut, DropCut, Reopen}
 use Rattle.object_graph.specs.declared.calls.Reply.TheVariants.{Refused}

@@ -1,5 +1,5 @@
 -- What a cut keeps of each page, and the graph of a closed cut.
-use Rattle.std.specs.Prelude.{ℕ, ◌==◌, Option, Some, None, List, [], ◌∷◌, ◌++◌, length, slice_index_or, unwrap_or, option_map, if◌then◌else◌, nat_lt}
+use Rattle.std.specs.Prelude.{ℕ, Option, Some, None, List, [], ◌∷◌, ◌++◌, length, slice_index_or, unwrap_or, option_map, if◌then◌else◌, nat_lt}
 use Rattle.object_graph.specs.NameParts.{NameParts}
 use Rattle.object_graph.specs.SlotParts.{SlotParts}
 use Rattle.object_graph.specs.declared.names.Object.{Object}

@@ -1,5 +1,5 @@
 -- Which cuts are sound, and which copies are fit.
-use Rattle.std.specs.Prelude.{◌≡◌, ℕ, ◌<◌, ◌≤◌, not, ◌⊎◌, Option, Some, None, List, length, filter, slice_index_or, is_some, IsTrue, IfSome, IsSomeAnd}
+use Rattle.std.specs.Prelude.{◌≡◌, ℕ, ◌<◌, ◌≤◌, not, ◌⊎◌, Some, List, length, filter, slice_index_or, is_some, IsTrue, IfSome, IsSomeAnd}
 use Rattle.std.specs.List.{list_any, AllByRecursion}
 use Rattle.object_graph.specs.NameParts.{NameParts}
 use Rattle.object_graph.specs.SlotParts.{SlotParts}
@@ -10,10 +10,9 @@ use Rattle.store_model.specs.Worlds.{World, Opening}
 use Rattle.store_model.specs.Worlds.{IsOutOfReach}
 use Rattle.store_model.specs.Lawful.{IsOrderly}
 use Rattle.store_model.specs.Worlds.{is_unfreed, is_old, IsLost}
-use Rattle.store_model.specs.Images.{shown_of, shown_in, shown}
 use Rattle.cut_model.specs.States.{State, state_of, KeepsOpening, generation_at, shown_by}
 use Rattle.cut_model.specs.Images.{objects_of}
-use Rattle.cut_model.specs.CutPages.{Copied, Changed, CutPage, no_page, committed_image, settled_image, images_of_copy, images_of}
+use Rattle.cut_model.specs.CutPages.{Copied, CutPage, no_page, committed_image, settled_image, images_of_copy, images_of}
 
 -- an object in an image has the name of its place, and doesn't refer to what was lost, unless it was lost itself
 pub record IsSafeObject (opening : Opening) (o : Object) : Type 0 where

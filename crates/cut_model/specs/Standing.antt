@@ -1,5 +1,5 @@
 -- What stands beside a world: its cut, in each phase.
-use Rattle.std.specs.Prelude.{◌≡◌, ℕ, ◌<◌, List, [], length, replicate, slice_index_or, is_some, MatchOption}
+use Rattle.std.specs.Prelude.{◌≡◌, ℕ, ◌<◌, List, [], ◌∷◌, length, replicate, slice_index_or, is_some, MatchOption}
 use Rattle.object_graph.specs.declared.calls.Phase.{Phase}
 use Rattle.object_graph.specs.declared.calls.Phase.TheVariants.{Copying, Closed, Sweeping}
 use Rattle.object_graph.specs.declared.calls.Call.{Call}
@@ -7,14 +7,15 @@ use Rattle.object_graph.specs.declared.calls.Call.TheVariants.{OpenCut}
 use Rattle.object_graph.specs.declared.calls.Reply.{Reply}
 use Rattle.object_graph.specs.declared.calls.Reply.TheVariants.{Refused}
 use Rattle.object_graph.specs.declared.names.Object.{Object}
-use Rattle.store_model.specs.Worlds.{World, OpenedCut}
+use Rattle.store_model.specs.Worlds.{World, OpenedCut, Event}
+use Rattle.store_model.specs.Steps.{next}
 use Rattle.store_model.specs.Members.{In}
 use Rattle.store_model.specs.Causes.{has_page}
 use Rattle.store_model.specs.Lawful.{KeepsLost, IsLawful}
 use Rattle.cut_model.specs.States.{state_of, KeepsOpening}
 use Rattle.cut_model.specs.CutPages.{CutPage, no_page, cut_graph}
 use Rattle.cut_model.specs.Sound.{IsSafeObject, IsSound}
-use Rattle.cut_model.specs.Moves.{MovesBy}
+use Rattle.cut_model.specs.Changes.{ChangesBy}
 use Rattle.cut_model.specs.Doomed.{KeepsDoomed}
 
 -- while it is copied, a cut is sound
@@ -47,7 +48,7 @@ pub record IsStanding (w : World) (pages : List CutPage) : Type 0 where
 
 -- what an event does to the pages of the cut
 abbrev pub TurnsIn : World → OpenedCut → Phase → Call → List CutPage → List CutPage → Type 0
-TurnsIn w cut Copying call pages after = MovesBy w cut.opening call pages after
+TurnsIn w cut Copying call pages after = ChangesBy w cut.opening call pages after
 TurnsIn w cut Closed call pages after = after ≡ pages
 TurnsIn w cut Sweeping call pages after = after ≡ pages
 
@@ -61,3 +62,8 @@ TurnsOf w call pages after = MatchOption w.cut (after ≡ pages) (TurnsBeside w 
 abbrev pub Turns : World → Call → Reply → List CutPage → List CutPage → Type 0
 Turns w call (Refused why) pages after = after ≡ pages
 Turns w call reply pages after = TurnsOf w call pages after
+
+-- the pages of the cut, from event to event
+abbrev pub TurnsThrough : World → List CutPage → List Event → List CutPage → Type 0
+TurnsThrough w pages [] last = last ≡ pages
+TurnsThrough w pages (e ∷ events) last = (after : List CutPage) × Turns w e.entry.call e.entry.reply pages after × TurnsThrough (next w e) after events last
