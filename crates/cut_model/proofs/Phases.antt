@@ -24,7 +24,7 @@ use Rattle.cut_model.proofs.Flats.{in_below}
 use Rattle.store_model.proofs.Allowed.{when_none, with_page_cases}
 use Rattle.store_model.specs.Lawful.{IsOrderly}
 use Rattle.cut_model.specs.States.{State, state_of, state_after, KeepsOpening}
-use Rattle.cut_model.specs.CutPages.{Copied, CutPage, no_page, with_copy}
+use Rattle.cut_model.specs.CutPages.{Copied, CutPage, bare_page, with_copy}
 use Rattle.cut_model.specs.Sound.{IsSound}
 use Rattle.cut_model.specs.Frames.{copy_now}
 use Rattle.cut_model.specs.Changes.{IsCutAfter, Adds, ChangesBy}
@@ -70,7 +70,7 @@ given_stays w after cut pages lawful next f same given = record {
 
 -- the copies of the pages are the same
 abbrev pub SameCopies : List CutPage → List CutPage → Type 0
-SameCopies pages after = (length after ≡ length pages) × ((page : ℕ) → page < length pages → (get_or after page no_page).copy ≡ (get_or pages page no_page).copy)
+SameCopies pages after = (length after ≡ length pages) × ((page : ℕ) → page < length pages → (get_or after page bare_page).copy ≡ (get_or pages page bare_page).copy)
 
 copying_stays : (w after : World) (cut : OpenedCut) (pages next_pages : List CutPage) → IsOrderly w → IsOrderly after → StateFollows w (state_of after) → after.pages ≡ w.pages
     → IsCopying w cut pages → SameCopies pages next_pages → IsSound (state_of after) cut.opening next_pages → IsCopying after cut next_pages
@@ -150,16 +150,16 @@ pub right_phase : (cut : OpenedCut) (phase : Phase) → wrong_phase cut phase �
 right_phase cut phase h = not-false (is_phase cut.phase phase) (when_none (not (is_phase cut.phase phase)) _ h)
 
 copied_more : (w : World) (cut : OpenedCut) (page : ℕ) (c : Copied) (pages after : List CutPage) → IsCopying w cut pages → Adds page c pages after
-    → (k : ℕ) → k < w.pages → is_some (get_or after k no_page).copy ≡ has_page (with_page page cut.copied) k
+    → (k : ℕ) → k < w.pages → is_some (get_or after k bare_page).copy ≡ has_page (with_page page cut.copied) k
 copied_more w cut page c pages after copying adds = λ k within. elim (cases_eq k page) [
   | inl e ↦
-      let g : get_or after page no_page ≡ with_copy c (get_or pages page no_page) =
-      ap (λ ps. get_or ps page no_page) adds.1 ∙ get_or-set_same pages page (with_copy c (get_or pages page no_page)) no_page adds.0 in
-      subst (λ k. is_some (get_or after k no_page).copy ≡ has_page (with_page page cut.copied) k) (sym e)
+      let g : get_or after page bare_page ≡ with_copy c (get_or pages page bare_page) =
+      ap (λ ps. get_or ps page bare_page) adds.1 ∙ get_or-set_same pages page (with_copy c (get_or pages page bare_page)) bare_page adds.0 in
+      subst (λ k. is_some (get_or after k bare_page).copy ≡ has_page (with_page page cut.copied) k) (sym e)
       (ap (λ (p : CutPage). is_some p.copy) g ∙ sym (with_page_has page cut.copied))
   | inr ne ↦
-      let g : get_or after k no_page ≡ get_or pages k no_page =
-      ap (λ ps. get_or ps k no_page) adds.1 ∙ get_or-set_other pages page k (with_copy c (get_or pages page no_page)) no_page ne in
+      let g : get_or after k bare_page ≡ get_or pages k bare_page =
+      ap (λ ps. get_or ps k bare_page) adds.1 ∙ get_or-set_other pages page k (with_copy c (get_or pages page bare_page)) bare_page ne in
       ap (λ (p : CutPage). is_some p.copy) g ∙ (copying.copied k within ∙ other k ne)
 ]
   where
@@ -186,7 +186,7 @@ added w cut Sweeping page c pages after lawful next right adds stands = cc
 added w cut Copying page c pages after lawful next right adds stands =
     let a = adds refl in record {
       keeps = opening_stays w (with_cut w (has_copied page)) cut.opening lawful next (inl refl) stands.keeps;
-      all = ap length a.0.1 ∙ (length-set pages page (with_copy c (get_or pages page no_page)) ∙ stands.all);
+      all = ap length a.0.1 ∙ (length-set pages page (with_copy c (get_or pages page bare_page)) ∙ stands.all);
       sound = a.1;
       copied = copied_more w cut page c pages after stands a.0;
       unswept = stands.unswept;
@@ -349,15 +349,15 @@ sweep_stands w page slots note pages after lawful next may free turns stands = b
 
 -- ---- an opening
 
-open_stands : (w : World) (after : List CutPage) → IsOrderly w → IsOrderly (opened w) → after ≡ replicate w.pages no_page
+open_stands : (w : World) (after : List CutPage) → IsOrderly w → IsOrderly (opened w) → after ≡ replicate w.pages bare_page
     → MatchOption (opened w).cut (Unit {0}) (IsCutStanding (opened w) after)
 open_stands w after lawful next turns =
     let cut : OpenedCut = record { number = w.last_cut + 1; phase = Copying; copied = []; swept = []; opening = opening_of w } in
     subst (IsCopying (opened w) cut) (sym turns) (record {
       keeps = opening_stays w (opened w) (opening_of w) lawful next (inl refl) (opening_is_kept w lawful);
-      all = length-replicate w.pages no_page;
+      all = length-replicate w.pages bare_page;
       sound = empty_cut_is_sound w w.pages;
-      copied = λ page within. ap (λ (p : CutPage). is_some p.copy) (get-replicate_same w.pages page no_page);
+      copied = λ page within. ap (λ (p : CutPage). is_some p.copy) (get-replicate_same w.pages page bare_page);
       unswept = refl;
     })
 

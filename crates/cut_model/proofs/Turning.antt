@@ -11,7 +11,7 @@ use Rattle.store_model.specs.Worlds.{World, OpenedCut, Event, transaction}
 use Rattle.store_model.specs.Replies.{Allows}
 use Rattle.store_model.specs.Steps.{next}
 use Rattle.cut_model.specs.States.{state_of}
-use Rattle.cut_model.specs.CutPages.{Copied, CutPage, no_page}
+use Rattle.cut_model.specs.CutPages.{Copied, CutPage, bare_page}
 use Rattle.cut_model.specs.Sound.{IsFitCopy}
 use Rattle.cut_model.specs.Frames.{copy_now}
 use Rattle.cut_model.specs.Changes.{IsCutAfter, Adds, ChangesBy}
@@ -62,7 +62,7 @@ pub turns_copy : (w : World) (cut : OpenedCut) (page : ℕ) (pages after : List 
 turns_copy w cut page pages after is phase adds = turns_in w cut (Copy page) pages after is phase adds
 
 pub turns_hand : (w : World) (cut : OpenedCut) (page number seen : ℕ) (c : Copied) (pages after : List CutPage) → w.cut ≡ Some cut → cut.phase ≡ Copying
-    → IsFitCopy (state_of w) cut.opening page (get_or pages page no_page) c → Adds page c pages after → TurnsOf w (HandIn page number seen) pages after
+    → IsFitCopy (state_of w) cut.opening page (get_or pages page bare_page) c → Adds page c pages after → TurnsOf w (HandIn page number seen) pages after
 turns_hand w cut page number seen c pages after is phase fit adds = turns_in w cut (HandIn page number seen) pages after is phase (c, fit, adds)
 
 pub turns_commit : (w : World) (cut : OpenedCut) (t : ℕ) (pages after : List CutPage) → w.cut ≡ Some cut → cut.phase ≡ Copying → IsCutAfter w (transaction w t) pages after

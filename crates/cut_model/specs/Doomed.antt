@@ -11,17 +11,17 @@ use Rattle.store_model.specs.Worlds.{IsOutOfReach}
 use Rattle.store_model.specs.Members.{In}
 use Rattle.store_model.specs.Worlds.{is_old, IsLost}
 use Rattle.cut_model.specs.Images.{no_slot, objects_of}
-use Rattle.cut_model.specs.CutPages.{CutPage, no_page, settled_image, IsMarked}
+use Rattle.cut_model.specs.CutPages.{CutPage, bare_page, settled_image, IsMarked}
 
 -- a name in use in the settled image of its page, neither born nor marked
 pub record IsDoomed (roots : List NameParts) (pages : List CutPage) (name : NameParts) : Type 0 where
   pub image : List SlotParts
   pub object : Object
   pub within : name.page < length pages
-  pub settled : settled_image (slice_index_or pages name.page no_page) ≡ Some image
+  pub settled : settled_image (slice_index_or pages name.page bare_page) ≡ Some image
   pub shown : In object (objects_of name.page image)
   pub named : object.name ≡ name
-  pub unborn : has_slot (slice_index_or pages name.page no_page).born name.slot ≡ false
+  pub unborn : has_slot (slice_index_or pages name.page bare_page).born name.slot ≡ false
   pub unmarked : ¬ IsMarked roots pages name
 
 -- an unfreed name that was there as the cut opened and is out of reach

@@ -13,7 +13,7 @@ use Rattle.store_model.specs.Members.{In}
 use Rattle.store_model.specs.Causes.{has_page}
 use Rattle.store_model.specs.Lawful.{KeepsLost, IsLawful}
 use Rattle.cut_model.specs.States.{state_of, KeepsOpening}
-use Rattle.cut_model.specs.CutPages.{CutPage, no_page, cut_graph}
+use Rattle.cut_model.specs.CutPages.{CutPage, bare_page, cut_graph}
 use Rattle.cut_model.specs.Sound.{IsSafeObject, IsSound}
 use Rattle.cut_model.specs.Changes.{ChangesBy}
 use Rattle.cut_model.specs.Doomed.{KeepsDoomed}
@@ -23,7 +23,7 @@ pub record IsCopying (w : World) (cut : OpenedCut) (pages : List CutPage) : Type
   pub keeps : KeepsOpening w cut.opening
   pub all : length pages ≡ w.pages
   pub sound : IsSound (state_of w) cut.opening pages
-  pub copied : (page : ℕ) → page < w.pages → is_some (slice_index_or pages page no_page).copy ≡ has_page cut.copied page
+  pub copied : (page : ℕ) → page < w.pages → is_some (slice_index_or pages page bare_page).copy ≡ has_page cut.copied page
   pub unswept : cut.swept ≡ []
 
 -- from the closing on, what its images doom is safe to free, and all that was lost is doomed or freed
@@ -56,7 +56,7 @@ abbrev pub TurnsBeside : World → Call → List CutPage → List CutPage → Op
 TurnsBeside w call pages after cut = TurnsIn w cut cut.phase call pages after
 
 abbrev pub TurnsOf : World → Call → List CutPage → List CutPage → Type 0
-TurnsOf w OpenCut pages after = after ≡ replicate w.pages no_page
+TurnsOf w OpenCut pages after = after ≡ replicate w.pages bare_page
 TurnsOf w call pages after = MatchOption w.cut (after ≡ pages) (TurnsBeside w call pages after)
 
 abbrev pub Turns : World → Call → Reply → List CutPage → List CutPage → Type 0

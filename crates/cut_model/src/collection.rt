@@ -12,7 +12,7 @@ ghost use Rattle.store_model.specs.Causes.{first_refusal};
 ghost use Rattle.store_model.specs.Replies.{AllowsReply, MayFree};
 ghost use Rattle.store_model.specs.Steps.{swept, with_page};
 ghost use Rattle.store_model.specs.Lawful.{IsOrderly};
-ghost use Rattle.cut_model.specs.CutPages.{CutPage, no_page, settled_image, cut_graph, IsMarked};
+ghost use Rattle.cut_model.specs.CutPages.{CutPage, bare_page, settled_image, cut_graph, IsMarked};
 ghost use Rattle.cut_model.specs.Sound.{IsSafeObject, IsClosedBeside};
 ghost use Rattle.cut_model.specs.Doomed.{KeepsDoomed, AreDoomedOn, AreMarks, is_doomed};
 ghost use Rattle.cut_model.specs.Standing.{IsStanding};
@@ -42,8 +42,8 @@ pub fn one_name_stands_at_each_place()
 /// names.
 pub fn doomed_slots_are_those_of_doomed_names()
     ensures { (opening : Opening) (roots : List NameParts) (pages : List CutPage) (marks : ℕ → ℕ) (page slots : ℕ) (image : List SlotParts)
-        → ((o : Object) → In o (cut_graph pages) → IsSafeObject opening o) → page < length pages → settled_image (slice_index_or pages page no_page) ≡ Some image
-        → AreMarks roots pages marks → ((slot : ℕ) → has_slot slots slot ≡ is_doomed image (slice_index_or pages page no_page).born (marks page) slot)
+        → ((o : Object) → In o (cut_graph pages) → IsSafeObject opening o) → page < length pages → settled_image (slice_index_or pages page bare_page) ≡ Some image
+        → AreMarks roots pages marks → ((slot : ℕ) → has_slot slots slot ≡ is_doomed image (slice_index_or pages page bare_page).born (marks page) slot)
         → AreDoomedOn roots pages page slots }
 {}
 
