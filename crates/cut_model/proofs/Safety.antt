@@ -156,7 +156,7 @@ lost_is_doomed w opening pages name closed lost unfreed =
 
 -- ---- the closing
 
-pub closing_keeps_doomed : (w : World) (opening : Opening) (pages : List CutPage) → IsClosedBeside w opening pages → KeepsDoomed w opening pages []
+pub closing_keeps_doomed : (w : World) (opening : Opening) (pages : List CutPage) → IsClosedBeside w opening pages → KeepsDoomed w opening (starts w) pages []
 closing_keeps_doomed w opening pages closed = record {
   safe = λ name doomed unswept. subst (IsSafeToFree w opening) doomed.named
       (doomed_is_safe w opening pages name.page doomed.image doomed.object closed doomed.within doomed.settled doomed.shown

@@ -5,7 +5,7 @@ use Rattle.object_graph.specs.SlotParts.{SlotParts}
 use Rattle.object_graph.specs.Slots.{has_slot}
 use Rattle.object_graph.specs.declared.names.Object.{Object}
 use Rattle.object_graph.specs.Graphs.{has_object}
-use Rattle.store_model.specs.Worlds.{World, Opening, starts, is_freed}
+use Rattle.store_model.specs.Worlds.{World, Opening, is_freed}
 use Rattle.store_model.specs.Causes.{has_page}
 use Rattle.store_model.specs.Worlds.{IsOutOfReach}
 use Rattle.store_model.specs.Members.{In}
@@ -32,9 +32,9 @@ pub record IsSafeToFree (w : World) (opening : Opening) (name : NameParts) : Typ
   pub out : IsOutOfReach w name
 
 -- on the pages that aren't swept each doomed name is safe to free, and what was lost and isn't freed is doomed there
-pub record KeepsDoomed (w : World) (opening : Opening) (pages : List CutPage) (swept : List ℕ) : Type 0 where
-  pub safe : (name : NameParts) → IsDoomed (starts w) pages name → has_page swept name.page ≡ false → IsSafeToFree w opening name
-  pub lost : (name : NameParts) → IsLost opening name → IsTrue (not (is_freed w name)) → (has_page swept name.page ≡ false) × IsDoomed (starts w) pages name
+pub record KeepsDoomed (w : World) (opening : Opening) (roots : List NameParts) (pages : List CutPage) (swept : List ℕ) : Type 0 where
+  pub safe : (name : NameParts) → IsDoomed roots pages name → has_page swept name.page ≡ false → IsSafeToFree w opening name
+  pub lost : (name : NameParts) → IsLost opening name → IsTrue (not (is_freed w name)) → (has_page swept name.page ≡ false) × IsDoomed roots pages name
 
 -- the doomed slots of a page
 abbrev pub AreDoomedOn : List NameParts → List CutPage → ℕ → ℕ → Type 0
