@@ -18,7 +18,6 @@ use Rattle.store_model.proofs.Members.{each_in}
 use Rattle.store_model.proofs.Lawfulness.{fresh_is_lawful_world}
 use Rattle.store_model.proofs.Paths.{has_name_in}
 use Rattle.store_model.specs.Worlds.{IsLost}
-use Rattle.cut_model.specs.CutPages.{CutPage}
 use Rattle.cut_model.specs.Standing.{CutBeside, nothing_copied, IsCutStanding, IsInPhase, IsStanding, TurnsThrough}
 use Rattle.cut_model.proofs.Flats.{in_below}
 use Rattle.cut_model.proofs.Sweeps.{lost_is_freed}

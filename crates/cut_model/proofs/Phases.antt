@@ -1,5 +1,5 @@
 -- Each event leaves what stands.
-use Rattle.std.proofs.Common.{◌≡◌, ◌≢◌, ℕ, ◌+◌, ◌<◌, Bool, true, false, not, cond, List, [], ◌∷◌, length, get_or, replicate, Option, Some, None, refl, sym, subst, ap, ◌∙◌, inl, inr, arith}
+use Rattle.std.proofs.Common.{◌≡◌, ◌≢◌, ℕ, ◌+◌, ◌<◌, Bool, true, false, not, cond, List, [], ◌∷◌, length, get_or, Option, Some, None, refl, sym, subst, ap, ◌∙◌, inl, inr, arith}
 use Rattle.std.specs.List.{find, AllByRecursion}
 use Rattle.std.specs.Option.{is_some, unwrap_or, option_map, MatchOption}
 use Rattle.std.proofs.lemmas.Bool.{cases_Bool, cases_eq, not-false}

@@ -7,7 +7,7 @@ use Rattle.object_graph.specs.Slots.{has_slot}
 use Rattle.object_graph.specs.declared.names.Object.{Object}
 use Rattle.object_graph.specs.Graphs.{has_name, objects_at}
 use Rattle.object_graph.specs.Slots.{below, slots_in}
-use Rattle.store_model.specs.Worlds.{World, Opening, OpenedCut, starts, is_freed, unfreed, IsLost}
+use Rattle.store_model.specs.Worlds.{World, Opening, OpenedCut, is_freed, unfreed, IsLost}
 use Rattle.store_model.specs.Causes.{has_page}
 use Rattle.store_model.specs.Replies.{names_in, IsGarbage, MayFree}
 use Rattle.store_model.specs.Steps.{with_page, swept}

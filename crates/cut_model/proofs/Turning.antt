@@ -1,5 +1,5 @@
 -- How a caller shows what an event did to the pages of the cut, and the event's law with sealed words.
-use Rattle.std.proofs.Common.{◌≡◌, ℕ, Bool, true, false, List, get_or, Option, Some, None, refl, sym, subst}
+use Rattle.std.proofs.Common.{◌≡◌, ℕ, Bool, true, false, get_or, Option, Some, None, refl, sym, subst}
 use Rattle.std.specs.Option.{MatchOption}
 use Rattle.object_graph.specs.declared.calls.Phase.{Phase}
 use Rattle.object_graph.specs.declared.calls.Phase.TheVariants.{Copying, Closed, Sweeping}
@@ -11,7 +11,7 @@ use Rattle.store_model.specs.Worlds.{World, OpenedCut, Event, transaction, start
 use Rattle.store_model.specs.Replies.{Allows}
 use Rattle.store_model.specs.Steps.{next}
 use Rattle.cut_model.specs.States.{state_of}
-use Rattle.cut_model.specs.CutPages.{Copied, CutPage, bare_page}
+use Rattle.cut_model.specs.CutPages.{Copied, bare_page}
 use Rattle.cut_model.specs.Sound.{IsFitCopy}
 use Rattle.cut_model.specs.Frames.{copy_now}
 use Rattle.cut_model.specs.Changes.{IsCutAfter, Adds, ChangesBy}
