@@ -33,4 +33,6 @@ pub use steps::{
     broken_comes_first, commits_do_not_fall, committed_names_stay, freed_names_stay,
     only_commits_and_reopenings_change_the_graph, refusals_leave_the_world,
 };
-pub use texts::{no_two_calls_have_one_text, no_two_refusals_have_one_text};
+pub use texts::{
+    no_two_calls_have_one_text, no_two_refusals_have_one_text, no_two_replies_have_one_text,
+};
