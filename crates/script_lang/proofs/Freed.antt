@@ -5,7 +5,6 @@ use Rattle.std.specs.Prelude.{decimal, codes, filter, flat_map}
 use Rattle.std.proofs.lemmas.List.Elements.{filter-append}
 use Rattle.std.proofs.lemmas.Grind.{flat_map-append}
 use Rattle.std.proofs.lemmas.List.Concat.{flat_map-cons}
-
 use Rattle.object_graph.specs.Slots.{has_slot, below, slots_in}
 use Rattle.object_graph.specs.declared.calls.Reply.TheVariants.{Freed}
 use Rattle.store_model.specs.Texts.{slots_text, reply_text}
