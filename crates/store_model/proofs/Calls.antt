@@ -32,6 +32,10 @@ is_known w n name h = not-false (has_name (transaction w n).known name) (when_no
 
 -- ---- apart
 
+pub right_false : (a b : Bool) → (a || b) ≡ false → b ≡ false
+right_false true b e = cc
+right_false false b e = e
+
 apart_reader : (t after u : Transaction) (page : ℕ) → after.pages_written ≡ t.pages_written → after.pages_read ≡ with_page page t.pages_read
     → has_page u.pages_written page ≡ false → IsApart t u → IsApart u t → IsApart after u × IsApart u after
 apart_reader t after u page same read free a b = (
@@ -63,10 +67,6 @@ apart_writer t after u page same wrote free a b = (
     ]
   ],
 )
-  where
-    right_false : (a b : Bool) → (a || b) ≡ false → b ≡ false
-    right_false true b e = cc
-    right_false false b e = e
 
 both_apart : (w : World) (n : ℕ) (u : Transaction) → IsOrderly w → not_open w n ≡ None → In u w.transactions → u.number ≢ n → IsApart (transaction w n) u × IsApart u (transaction w n)
 both_apart w n u lawful opn j ne =
@@ -79,7 +79,7 @@ both_apart w n u lawful opn j ne =
 no_writer : (w : World) (n page : ℕ) (u : Transaction) → busy_to_read w n page ≡ None → In u w.transactions → u.number ≢ n → has_page u.pages_written page ≡ false
 no_writer w n page u h j ne = nobody_holds w n (λ t. has_page t.pages_written page) u (mapped_none (holder w n (λ t. has_page t.pages_written page)) h) j ne
 
-no_user : (w : World) (n page : ℕ) (u : Transaction) → busy_to_write w n page ≡ None → In u w.transactions → u.number ≢ n → (has_page u.pages_read page || has_page u.pages_written page) ≡ false
+pub no_user : (w : World) (n page : ℕ) (u : Transaction) → busy_to_write w n page ≡ None → In u w.transactions → u.number ≢ n → (has_page u.pages_read page || has_page u.pages_written page) ≡ false
 no_user w n page u h j ne =
     nobody_holds w n (λ t. has_page t.pages_read page || has_page t.pages_written page) u
     (mapped_none (holder w n (λ t. has_page t.pages_read page || has_page t.pages_written page)) h) j ne
@@ -272,12 +272,12 @@ making w n page slot lawful opn within free is = record {
   numbers = λ t. refl;
   lawful = record {
     own = each_from (IsOwn w.graph w.freed after) (t.own ++ name ∷ []) (λ m i. elim (in_append t.own (name ∷ []) m i) [
-        | inl before ↦ grew_own w.graph w.freed t after m g (each_in (IsOwn w.graph w.freed t) t.own m lt.own before)
-        | inr new ↦ elim new [
-          | inl q ↦ subst (IsOwn w.graph w.freed after) (sym q) (record { page = with_page_has page t.pages_written; free = is.free; next = refl })
-          | inr z ↦ absurd z
-        ]
-      ]);
+      | inl before ↦ grew_own w.graph w.freed t after m g (each_in (IsOwn w.graph w.freed t) t.own m lt.own before)
+      | inr new ↦ elim new [
+        | inl q ↦ subst (IsOwn w.graph w.freed after) (sym q) (record { page = with_page_has page t.pages_written; free = is.free; next = refl })
+        | inr z ↦ absurd z
+      ]
+    ]);
     one_at_each_place = λ p s. one_more_at p s page slot (1 + length (objects_at w.graph page slot)) t.own (lt.one_at_each_place p s) is.none;
     writes = grew_all_writes t after g lt.writes;
     known = each_from (IsCovered w.graph (starts w) after) (with_name name t.known) (λ m i.

@@ -4,7 +4,7 @@ pub mod Changes
 pub mod Committed
 pub mod Cuts
 pub mod Grown
-pub mod Histories
+pub mod Parts
 pub mod Images
 pub mod Keeps
 pub mod Lists
@@ -18,6 +18,10 @@ pub mod Paths
 pub mod Places
 pub mod Reach
 pub mod Rounds
-pub mod Lawful
+pub mod Lawfulness
 pub mod Tests
-pub mod Examples
+pub mod Scripts
+pub mod News
+pub mod Spelled
+pub mod CallTexts
+pub mod RefusalTexts

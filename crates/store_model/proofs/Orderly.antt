@@ -18,7 +18,8 @@ use Rattle.store_model.specs.Worlds.{World, Transaction, OpenedCut, Doubt, no_do
 use Rattle.store_model.specs.Causes.{first_refusal, causes, new_name}
 use Rattle.store_model.specs.Replies.{AllowsReply, Answers, names_in, found_in, IsGarbage, MayFree, MayFreeNow, MayReopen}
 use Rattle.store_model.specs.Steps.{graph_in_doubt, after_refusal, after_answer, after_reply}
-use Rattle.store_model.specs.Lawful.{IsOwn, IsLawfulTransaction, IsApart, IsOutOfReach}
+use Rattle.store_model.specs.Worlds.{IsOutOfReach}
+use Rattle.store_model.specs.Lawful.{IsOwn, IsLawfulTransaction, IsApart}
 use Rattle.store_model.proofs.Members.{in_append, append_right, in_filter, filter_in, each_in, each_from}
 use Rattle.store_model.proofs.Paths.{has_name_in, in_has_name, in_has_object}
 use Rattle.store_model.proofs.Allowed.{when_none}
@@ -139,7 +140,7 @@ may_free_unreached w page slots may = by_cut w.cut may
     by_cut (Some cut) m = all_map (IsGarbage w cut.opening) (λ name. IsTrue (has_object w.graph name) × (¬ IsReached w name)) (names_in w page slots) m.safe (λ name i garbage.
         let a = in_names_in w page slots name i in (
           subst (λ n. has_object w.graph n ≡ true) (sym a.5) (in_has_object w.graph a.0 a.1),
-          garbage.unreached,
+          garbage.out.0,
         ))
 
 -- ---- reopening

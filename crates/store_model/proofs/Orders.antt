@@ -33,7 +33,7 @@ pub record IsLawfulChange (w : World) (n : ℕ) (f : Transaction → Transaction
   pub placed : AllByRecursion (IsPlacedName w) (f (transaction w n)).own
   pub apart : (u : Transaction) → In u w.transactions → u.number ≢ n → IsApart (f (transaction w n)) u × IsApart u (f (transaction w n))
 
-the_one : (w : World) (n : ℕ) (t u : Transaction) → IsOrderly w → In t w.transactions → In u w.transactions → t.number ≡ n → u.number ≡ n → t ≡ u
+pub the_one : (w : World) (n : ℕ) (t u : Transaction) → IsOrderly w → In t w.transactions → In u w.transactions → t.number ≡ n → u.number ≡ n → t ≡ u
 the_one w n t u lawful i j a b =
     two_in (filter (λ (t : Transaction). t.number == n) w.transactions) t u (lawful.distinct n)
     (filter_in (λ (t : Transaction). t.number == n) w.transactions t i (eq-eqb t.number n a))

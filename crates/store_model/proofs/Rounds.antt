@@ -102,9 +102,11 @@ garbage_by_test w opening name h =
     let b = and_parts (is_out_of_reach w.graph (starts w) name) (list_all others w.transactions) a.1 in
     record {
       old = a.0;
-      unreached = out_of_reach w.graph (starts w) name b.0;
-      unheld = each_from (λ t. ¬ IsHeldBy w t name) w.transactions
-          (λ t m. out_of_reach (view w t) t.known name (all_in others w.transactions t b.1 m));
+      out = (
+        out_of_reach w.graph (starts w) name b.0,
+        each_from (λ t. ¬ IsHeldBy w t name) w.transactions
+            (λ t m. out_of_reach (view w t) t.known name (all_in others w.transactions t b.1 m)),
+      );
     }
 
 done_cases : (w : World) (opening : Opening) (page slots : ℕ) (name : NameParts) → IsLost opening name → name.page ≡ page → not (is_freed w name) ≡ true

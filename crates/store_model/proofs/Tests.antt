@@ -15,7 +15,7 @@ use Rattle.object_graph.specs.declared.calls.Refusal.{Refusal}
 use Rattle.object_graph.specs.declared.calls.Refusal.TheVariants.{NotOpen, Stranger, BadField, NoPage, Busy, TooWide, KnowsTooMany, PageFull, AlreadyOpen, TooMany, CutThere, NoCut, WrongPhase, AlreadyCopied, Uncopied, OtherCut, AlreadySwept, Unswept, Spent, DiskFault, Broken, NotAStore, Damaged, Memory}
 use Rattle.store_model.specs.Worlds.{World, OpenedCut, Doubt, no_doubt, commit_in_doubt, sweep_in_doubt, Note, Event}
 use Rattle.store_model.specs.Causes.{first_refusal, field_seen, number_seen, new_name}
-use Rattle.store_model.specs.Replies.{AllowsReply, Answers, AnswersSweep, AnswersReopen, answer_made, MayFree, MayReopen, is_free, found_in, has_note}
+use Rattle.store_model.specs.Replies.{AllowsReply, Answers, AnswersSweep, AnswersReopen, AnswersNew, MayFree, MayReopen, is_free, found_in, has_note}
 use Rattle.store_model.specs.Steps.{next}
 use Rattle.store_model.specs.Histories.{IsLegal}
 use Rattle.store_model.proofs.Paths.{name_eq_same}
@@ -136,7 +136,7 @@ abbrev pub is_made : Option NameParts → Reply → Bool
 is_made None reply = false
 is_made (Some name) reply = is_reply reply (Made name)
 
-made_is : (o : Option NameParts) (reply : Reply) → is_made o reply ≡ true → answer_made o reply
+made_is : (o : Option NameParts) (reply : Reply) → is_made o reply ≡ true → AnswersNew o reply
 made_is None reply h = cc
 made_is (Some name) reply h = reply_is reply (Made name) h
 

@@ -6,7 +6,7 @@ use Rattle.object_graph.specs.Names.{root_name}
 use Rattle.object_graph.specs.declared.names.Object.{Object}
 use Rattle.object_graph.specs.Graphs.{has_name, has_object, refers, is_at, objects_at, IsReachedFrom}
 use Rattle.object_graph.specs.Slots.{below}
-use Rattle.store_model.specs.Worlds.{World, Transaction, OpenedCut, Opening, Doubt, no_doubt, commit_in_doubt, sweep_in_doubt, Write, link, assign, slots_of, starts, find_transaction, is_unfreed, is_old, IsReached, IsHeldBy, IsLost}
+use Rattle.store_model.specs.Worlds.{World, Transaction, OpenedCut, Opening, Doubt, no_doubt, commit_in_doubt, sweep_in_doubt, Write, link, assign, slots_of, starts, find_transaction, is_unfreed, is_old, IsOutOfReach, IsLost}
 use Rattle.store_model.specs.Causes.{has_page, name_at}
 
 -- ---- the graph
@@ -94,10 +94,6 @@ pub record AreInOrder (pages : ℕ) (slots : ℕ → ℕ) (graph : List Object) 
 
 abbrev pub IsOrderly : World → Type 0
 IsOrderly w = AreInOrder w.pages (slots_of w) w.graph w.freed (starts w) w.transactions
-
--- nothing leads to the name: neither from the starts nor from what an open transaction knows
-abbrev pub IsOutOfReach : World → NameParts → Type 0
-IsOutOfReach w name = (¬ IsReached w name) × AllByRecursion (λ t. ¬ IsHeldBy w t name) w.transactions
 
 -- what a world keeps of a cut's opening: what was lost is out of reach, and nothing else that is unfreed refers to it
 pub record KeepsLost (w : World) (opening : Opening) : Type 0 where

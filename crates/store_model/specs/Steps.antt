@@ -1,5 +1,5 @@
 -- The world after an event.
-use Rattle.std.specs.Prelude.{ℕ, ◌+◌, not, ◌==◌, Option, Some, None, List, [], ◌∷◌, ◌++◌, map, filter, option_map, if◌then◌else◌}
+use Rattle.std.specs.Prelude.{ℕ, ◌+◌, Bool, true, false, not, ◌==◌, Option, Some, None, List, [], ◌∷◌, ◌++◌, map, filter, option_map, if◌then◌else◌}
 use Rattle.object_graph.specs.NameParts.{NameParts}
 use Rattle.object_graph.specs.declared.names.Object.{Object}
 use Rattle.object_graph.specs.declared.calls.Phase.TheVariants.{Copying, Closed, Sweeping}
@@ -145,3 +145,9 @@ after_reply w call note reply = after_answer w call note reply
 -- the world after an event
 abbrev pub next : World → Event → World
 next w e = after_reply w e.entry.call e.note e.entry.reply
+
+-- the call may change the graph
+abbrev pub changes_graph : Call → Bool
+changes_graph (Commit t) = true
+changes_graph Reopen = true
+changes_graph _ = false

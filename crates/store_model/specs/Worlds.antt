@@ -1,5 +1,6 @@
 -- What the store stands for: one graph that only grows, what was freed, the open transactions and the cut.
 use Rattle.std.specs.Prelude.{ℕ, Bool, not, ◌&&◌, ◌==◌, Option, None, List, [], ◌∷◌, ◌++◌, map, filter, find, unwrap_or, IsTrue}
+use Rattle.std.specs.List.{AllByRecursion}
 use Rattle.object_graph.specs.NameParts.{NameParts}
 use Rattle.object_graph.specs.Names.{root_name}
 use Rattle.object_graph.specs.declared.names.Object.{Object}
@@ -140,6 +141,10 @@ IsReached w name = IsReachedFrom w.graph (starts w) name
 -- the names that a transaction holds
 abbrev pub IsHeldBy : World → Transaction → NameParts → Type 0
 IsHeldBy w t name = IsReachedFrom (view w t) t.known name
+
+-- nothing leads to the name: neither from the starts nor from what an open transaction knows
+abbrev pub IsOutOfReach : World → NameParts → Type 0
+IsOutOfReach w name = (¬ IsReached w name) × AllByRecursion (λ t. ¬ IsHeldBy w t name) w.transactions
 
 -- the names that were unfreed as the cut opened
 abbrev pub is_old : Opening → NameParts → Bool

@@ -74,6 +74,11 @@ pub broken_comes_first : (w : World) (call : Call) (note : Note) → call ≢ Re
 broken_comes_first w Reopen note h = absurd (h refl)
 broken_comes_first w _ note h = (_, refl)
 
+pub broken_refuses : (w : World) (call : Call) (note : Note) (count : ℕ) → call ≢ Reopen → w.broken ≡ Some count → first_refusal w call note ≡ Some (Broken count)
+broken_refuses w call note count h is =
+    let a = broken_comes_first w call note h in
+    ap first_met a.1 ∙ ap (λ o. first_met (option_map (λ n. Broken n) o ∷ a.0)) is
+
 unbroken : (w : World) (call : Call) (note : Note) → call ≢ Reopen → first_refusal w call note ≡ None → broken w ≡ None
 unbroken w call note h may =
     let a = broken_comes_first w call note h in
@@ -127,9 +132,9 @@ no_cause causes P h may = by_first (first_met causes) refl may
 faulty_commit_is_open : (w : World) (t : ℕ) (note : Note) → Refuses w (Commit t) note DiskFault → is_some (find_transaction w t) ≡ true
 faulty_commit_is_open w t note may =
     let none : first_refusal w (Commit t) note ≡ None = no_cause (causes w (Commit t) note) _
-        (other_cause (broken w) (not_open w t ∷ spent w.commits ∷ []) (broken_is w.broken)
-        (other_cause (not_open w t) (spent w.commits ∷ []) (when_is (is_none (find_transaction w t)) NotOpen (λ e. cc))
-        (other_cause (spent w.commits) [] (when_is _ (Spent w.commits) (λ e. cc)) (λ e. cc)))) may in
+    (other_cause (broken w) (not_open w t ∷ spent w.commits ∷ []) (broken_is w.broken)
+    (other_cause (not_open w t) (spent w.commits ∷ []) (when_is (is_none (find_transaction w t)) NotOpen (λ e. cc))
+    (other_cause (spent w.commits) [] (when_is _ (Spent w.commits) (λ e. cc)) (λ e. cc)))) may in
     some_open (find_transaction w t) (when_none (is_none (find_transaction w t)) _ (nones (causes w (Commit t) note) none).1.0)
   where
     broken_is : (o : Option ℕ) → option_map (λ count. Broken count) o ≢ Some DiskFault
