@@ -5,12 +5,14 @@ mod calls;
 mod graph;
 mod memory;
 mod names;
+mod reach;
 mod slots;
 mod steps;
 
 pub use calls::{Call, Entry, Phase, Refusal, Reply};
 pub use graph::Graph;
 pub use memory::Memory;
-pub use names::{Name, Object, ROOT};
-pub use slots::SlotSet;
+pub use names::{names_and_numbers_are_one_to_one, Name, Object, ROOT};
+pub use reach::reached;
+pub use slots::{sets_are_their_slots, SlotSet};
 pub use steps::Steps;
