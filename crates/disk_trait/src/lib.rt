@@ -6,8 +6,8 @@ mod disk;
 mod failed;
 mod sink;
 mod source;
-
-
+#[cfg(test)]
+mod tests;
 
 pub use disk::{Disk, MemDisk};
 pub use failed::Failed;

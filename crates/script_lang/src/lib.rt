@@ -1,13 +1,8 @@
-// A library with one function.
+//! The lines of scripts, and the texts of replies.
 #![tactic(auto)]
 
-ghost use Rattle.std.specs.Prelude.{◌≡◌};
-ghost use Rattle.script_lang.specs.Echo.{echo_of};
+mod line;
+mod words;
 
-// The `ensures` clause is the contract: what `echo` returns is `echo_of` of its argument, a definition
-// in `specs/Echo.antt`, which a caller's clause can cite too.
-pub fn echo(x: usize) -> usize
-    ensures { result ≡ echo_of x }
-{
-    x
-}
+pub use line::{BadLine, Line};
+pub use words::{name_of, number_of, split_at_byte};
