@@ -7,6 +7,7 @@ use Rattle.object_graph.specs.declared.calls.Call.TheVariants.{Begin, Number, Pu
 use Rattle.object_graph.specs.declared.calls.Reply.TheVariants.{Done, Num, Committed}
 use Rattle.object_graph.specs.declared.names.Object.{Object}
 use Rattle.store_model.specs.Worlds.{World, Write, assign, view}
+use Rattle.store_model.specs.Limits.{most_counted, most_written}
 use Rattle.store_model.specs.Replies.{Allows}
 use Rattle.store_model.specs.Steps.{next, with_page}
 use Rattle.cut_core.specs.declared.plain.Plain.{Plain}
@@ -26,7 +27,7 @@ when_busy plain o w e s = subst (λ (o : Option Open). MatchOption o (w ≡ worl
 stands_with : (plain : Plain) (o : Open) (w : World) → plain.current ≡ Some o → Holds plain o w → Stands plain w
 stands_with plain o w e h = subst (λ (o : Option Open). MatchOption o (w ≡ world_of plain []) (λ o. Holds plain o w)) (sym e) h
 
-few_pages : (written : Option ℕ) → nat_le 64 (length (pages_of written)) ≡ false
+few_pages : (written : Option ℕ) → nat_le most_written (length (pages_of written)) ≡ false
 few_pages None = refl
 few_pages (Some v) = refl
 
@@ -89,7 +90,7 @@ commit_over : (plain : Plain) (o : Open) (writes : List Write) (reads : List ℕ
 commit_over plain o writes reads txn new same seen is count = rw (same, seen, is, count) refl
 
 pub commits_well : (plain : Plain) (o : Open) (txn : ℕ) (graph : List Object) (r : _) → plain.current ≡ Some o → (o.txn == txn) ≡ true
-    → nat_le (2 ^ 48) plain.commits ≡ false → graph ≡ settled plain.graph o.written
+    → nat_le most_counted plain.commits ≡ false → graph ≡ settled plain.graph o.written
     → StepsWell plain (record { graph = graph; commits = plain.commits + 1; current = None; has_root = r }) (Commit txn) (Committed (plain.commits + 1))
 commits_well plain o txn graph r e same low is w s = let h = when_busy plain o w e s in record {
   allowed = subst (λ (w : World). Allows w (event_of (Commit txn) (Committed (plain.commits + 1)))) (sym h.world) (refl, (rw (same, low) refl, refl));

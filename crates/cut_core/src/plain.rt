@@ -6,12 +6,10 @@ ghost use Rattle.cut_core.specs.Settled.{settled, number_in};
 
 use object_graph::{Call, Graph, Memory, Name, ROOT, Refusal, Reply};
 use std::alloc::Global;
+use store_model::most_counted;
 
 /// The pages of a fresh store.
 pub const PAGES: u32 = 16;
-
-/// How many commits there are at most.
-const MOST_COMMITS: u64 = 1 << 48;
 
 /// The open transaction, and the number that it wrote to the root, which is all that it knows.
 #[derive(Clone, Copy, Debug, PartialEq, Eq)]
@@ -134,7 +132,7 @@ impl Plain {
     {
         match self.current {
             Some(open) if open.txn == txn => {
-                if self.commits >= MOST_COMMITS {
+                if self.commits >= most_counted() {
                     return Reply::Refused {
                         why: Refusal::Spent {
                             count: self.commits,
