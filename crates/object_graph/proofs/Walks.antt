@@ -1,5 +1,5 @@
 -- A walk over a graph finds exactly what is reached.
-use Rattle.std.proofs.Common.{◌≡◌, ℕ, ◌+◌, ◌<◌, Bool, true, false, ◌&&◌, ◌||◌, List, [], ◌∷◌, ◌++◌, Option, Some, None, length, get_or, take, refl, sym, subst, ap, ◌∙◌, ◌⊎◌, inl, inr, append_assoc, append-nil, ◌↔◌, map, length-append, arith, eqb}
+use Rattle.std.proofs.Common.{◌≡◌, ℕ, ◌+◌, ◌<◌, Bool, true, false, ◌&&◌, ◌||◌, List, [], ◌∷◌, ◌++◌, length, get_or, take, refl, sym, subst, ap, ◌∙◌, ◌⊎◌, inl, inr, append_assoc, append-nil, map, length-append, arith, eqb}
 use Rattle.std.specs.List.{list_any, remove, IsDistinct, AllByRecursion, All}
 use Rattle.std.specs.List.Sorted.{IsPermutation, IsNonDecreasingBy, IsNonDecreasing, IsStrictlyIncreasing}
 use Rattle.std.proofs.lemmas.Bool.{and_parts, and_from, or_cases, ne_eqb}
@@ -14,8 +14,8 @@ use Rattle.object_graph.specs.Graphs.{has_object, has_name, has_same_name, is_to
 use Rattle.object_graph.specs.Walks.{IsTaken, AreReached}
 use Rattle.object_graph.specs.declared.names.Object.{Object}
 use Rattle.object_graph.proofs.Distinct.{same_name_flips, name_eq_flips}
-use Rattle.object_graph.proofs.Members.{In, any_in, in_any, or_left, or_right, append_left}
-use Rattle.object_graph.proofs.Paths.{name_of, name_eq_same, name_eq_refl, path_first, reached_more, in_has_object}
+use Rattle.object_graph.proofs.Members.{In, any_in, in_any, or_left, or_right}
+use Rattle.object_graph.proofs.Paths.{name_of, name_eq_same, name_eq_refl, path_first, reached_more}
 
 -- ---- tests over lists of objects
 
@@ -181,12 +181,12 @@ moved : (graph done todo left todo' left' : List Object) (o : Object) → IsPerm
 moved graph done todo left todo' left' o p q =
     let front : List Object = done ++ o ∷ [] in
     let turn : IsPermutation (done ++ (todo ++ o ∷ [])) (done ++ o ∷ todo) =
-        IsPermutation-append_right done (todo ++ o ∷ []) (o ∷ todo) (IsPermutation-to_front todo o) in
+    IsPermutation-append_right done (todo ++ o ∷ []) (o ∷ todo) (IsPermutation-to_front todo o) in
     let turned : IsPermutation graph ((done ++ o ∷ todo) ++ left) =
-        IsPermutation-trans graph ((done ++ (todo ++ o ∷ [])) ++ left) ((done ++ o ∷ todo) ++ left) p
-        (IsPermutation-append_left left (done ++ (todo ++ o ∷ [])) (done ++ o ∷ todo) turn) in
+    IsPermutation-trans graph ((done ++ (todo ++ o ∷ [])) ++ left) ((done ++ o ∷ todo) ++ left) p
+    (IsPermutation-append_left left (done ++ (todo ++ o ∷ [])) (done ++ o ∷ todo) turn) in
     let e : (done ++ o ∷ todo) ++ left ≡ front ++ (todo ++ left) =
-        ap (λ xs. xs ++ left) (sym (append_assoc done (o ∷ []) todo)) ∙ append_assoc front todo left in
+    ap (λ xs. xs ++ left) (sym (append_assoc done (o ∷ []) todo)) ∙ append_assoc front todo left in
     let at_front : IsPermutation graph (front ++ (todo ++ left)) = subst (λ xs. IsPermutation graph xs) e turned in
     subst (λ xs. IsPermutation graph xs) (sym (append_assoc front todo' left'))
     (IsPermutation-trans graph (front ++ (todo ++ left)) (front ++ (todo' ++ left')) at_front
@@ -252,7 +252,7 @@ stays : (graph done left : List Object) → HasEachNameOnce graph → IsPermutat
 stays graph done left once p closed first next m r =
     let test : Object → Bool = λ q. name_eq q.name first && list_any (is_to next) q.refs in
     let both : (list_any test done || list_any test left) ≡ true =
-        sym (list_any-append test done left) ∙ (sym (list_any-IsPermutation test graph (done ++ left) p) ∙ r) in
+    sym (list_any-append test done left) ∙ (sym (list_any-IsPermutation test graph (done ++ left) p) ∙ r) in
     elim (or_cases (list_any test done) (list_any test left) both) [
       | inl d ↦
           let found = any_in test done d in
@@ -273,7 +273,7 @@ follows graph done left once p closed first [] last m path = subst (λ n. has_ob
 follows graph done left once p closed first (next ∷ rest) last m path =
     let none = stays graph done left once p closed first next m path.0 in
     let there : (has_object done next || has_object left next) ≡ true =
-        sym (has_object-append done left next) ∙ (sym (has_object-same graph (done ++ left) p next) ∙ path_first graph next rest last path.2) in
+    sym (has_object-append done left next) ∙ (sym (has_object-same graph (done ++ left) p next) ∙ path_first graph next rest last path.2) in
     follows graph done left once p closed next rest last (or_not_right (has_object done next) (has_object left next) there none) path.2
 
 pub walk_done : (graph : List Object) (starts : List NameParts) (done left : List Object) → HasEachNameOnce graph
@@ -287,8 +287,8 @@ walk_done graph starts done left once w =
         λ r.
             let start : NameParts = r.0 in
             let there : (has_object done start || has_object left start) ≡ true =
-                sym (has_object-append done left start) ∙ (sym (has_object-same graph (done ++ left) p start) ∙ path_first graph start r.2.0 n r.2.1) in
-            follows graph done left once p w.closed start r.2.0 n (or_not_right (has_object done start) (has_object left start) there (w.begun start r.1)) r.2.1
+            sym (has_object-append done left start) ∙ (sym (has_object-same graph (done ++ left) p start) ∙ path_first graph start r.2.0 n r.2.1) in
+            follows graph done left once p w.closed start r.2.0 n (or_not_right (has_object done start) (has_object left start) there (w.begun start r.1)) r.2.1,
       );
     }
 
@@ -353,6 +353,6 @@ pub ascend : (objects : List Object) (before names : List NameParts) → HasEach
     → All IsName before → IsPermutation before names → IsNonDecreasingBy number_of names → IsStrictlyIncreasing (map number_of names)
 ascend objects before names once is each p sorted =
     let distinct : IsDistinct name_eq names =
-        IsDistinct-IsPermutation name_eq name_eq_flips before names p (subst (λ xs. IsDistinct name_eq xs) (sym is) (distinct_names objects once)) in
+    IsDistinct-IsPermutation name_eq name_eq_flips before names p (subst (λ xs. IsDistinct name_eq xs) (sym is) (distinct_names objects once)) in
     let all : AllByRecursion IsName names = recursion_from_All IsName names (All-permutation IsName before names p each) in
     IsStrictlyIncreasing-from_distinct (map number_of names) (numbers_ascend names sorted) (distinct_numbers names all distinct)

@@ -1,5 +1,5 @@
 -- Graphs of objects, paths in them, and their changes.
-use Rattle.std.specs.Prelude.{◌≡◌, ℕ, Bool, false, ◌&&◌, ◌==◌, Option, Some, None, List, [], ◌∷◌, IsTrue, find, filter, map, replicate, slice_set, if◌then◌else◌, length}
+use Rattle.std.specs.Prelude.{◌≡◌, ℕ, Bool, false, ◌&&◌, ◌==◌, Option, Some, None, List, [], ◌∷◌, IsTrue, find, filter, replicate, slice_set, if◌then◌else◌, length}
 use Rattle.std.specs.List.{list_any, IsDistinct}
 use Rattle.std.specs.Option.{option_map_or}
 use Rattle.object_graph.specs.NameParts.{NameParts}

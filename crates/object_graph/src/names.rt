@@ -85,6 +85,7 @@ impl Name {
         }
     }
 
+    /// The page on which the object is.
     pub fn page(self) -> u32
         ensures value { result ≡ self.page }
         ensures bound { result < 4096 }
@@ -92,6 +93,7 @@ impl Name {
         self.page
     }
 
+    /// The slot of that page.
     pub fn slot(self) -> u16
         ensures value { result ≡ self.slot }
         ensures bound { result < 40 }
@@ -99,6 +101,7 @@ impl Name {
         self.slot
     }
 
+    /// Which object of that slot it is, counted from 1.
     pub fn generation(self) -> u16
         ensures value { result ≡ self.generation }
         ensures bound { 1 ≤ result }
@@ -106,6 +109,7 @@ impl Name {
         self.generation
     }
 
+    /// The number of the name (FORMATS.md, "Names").
     pub fn to_u64(self) -> u64
         ensures { result ≡ number_of self }
     {
@@ -119,8 +123,7 @@ pub fn names_and_numbers_are_one_to_one()
     ensures apart { (m n : NameParts) → IsName m → IsName n → number_of m ≡ number_of n → m ≡ n }
     ensures to { (n : NameParts) → IsName n → IsNumberOfName (number_of n) }
     ensures from { (k : ℕ) → IsNumberOfName k → (n : NameParts) × IsName n × (number_of n ≡ k) }
-{
-}
+{}
 
 /// An object with its fields.
 #[derive(Clone, Copy, Debug, PartialEq, Eq)]

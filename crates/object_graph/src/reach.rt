@@ -40,7 +40,11 @@ fn walk(alloc: Global, objects: &[Object], starts: &[Name]) -> Result<Vec<Object
     Ok(done)
 }
 
-fn take_starts(todo: &mut Vec<Object>, left: &mut Vec<Object>, starts: &[Name]) -> Result<(), Memory>
+fn take_starts(
+    todo: &mut Vec<Object>,
+    left: &mut Vec<Object>,
+    starts: &[Name],
+) -> Result<(), Memory>
     ensures { OnOk result (IsTaken (has_name starts.now) todo.old.items left.old.items todo.new.items left.new.items) }
 {
     'starts: for start in starts {
@@ -49,7 +53,11 @@ fn take_starts(todo: &mut Vec<Object>, left: &mut Vec<Object>, starts: &[Name]) 
     Ok(())
 }
 
-fn take_refs(todo: &mut Vec<Object>, left: &mut Vec<Object>, refs: &[Option<Name>]) -> Result<(), Memory>
+fn take_refs(
+    todo: &mut Vec<Object>,
+    left: &mut Vec<Object>,
+    refs: &[Option<Name>],
+) -> Result<(), Memory>
     ensures { OnOk result (IsTaken (λ n. list_any (is_to n) refs.now) todo.old.items left.old.items todo.new.items left.new.items) }
 {
     'refs: for target in refs {
@@ -58,7 +66,11 @@ fn take_refs(todo: &mut Vec<Object>, left: &mut Vec<Object>, refs: &[Option<Name
     Ok(())
 }
 
-fn take_target(todo: &mut Vec<Object>, left: &mut Vec<Object>, target: &Option<Name>) -> Result<(), Memory>
+fn take_target(
+    todo: &mut Vec<Object>,
+    left: &mut Vec<Object>,
+    target: &Option<Name>,
+) -> Result<(), Memory>
     ensures { OnOk result (IsTaken (λ n. is_to n target.now) todo.old.items left.old.items todo.new.items left.new.items) }
 {
     match target {

@@ -23,6 +23,7 @@ impl Model for SlotSet {
 }
 
 impl SlotSet {
+    /// The set without a slot.
     pub fn empty() -> SlotSet
         ensures value { result ≡ 0 }
         ensures none { (s : ℕ) → has_slot result s ≡ false }
@@ -30,6 +31,7 @@ impl SlotSet {
         SlotSet { bits: 0 }
     }
 
+    /// Whether the slot is in the set.
     pub fn has(self, slot: u16) -> bool
         requires { slot < 40 }
         ensures { result ≡ has_slot self slot }
@@ -56,6 +58,7 @@ impl SlotSet {
         }
     }
 
+    /// The slots of both sets.
     pub fn union(self, other: SlotSet) -> SlotSet
         ensures { (s : ℕ) → has_slot result s ≡ (has_slot self s || has_slot other s) }
     {
@@ -64,6 +67,7 @@ impl SlotSet {
         }
     }
 
+    /// Whether no slot is in the set.
     pub fn is_empty(self) -> bool
         ensures number { IsTrue result ↔ (self ≡ 0) }
         ensures slots { IsTrue result ↔ ((s : ℕ) → s < 40 → has_slot self s ≡ false) }
@@ -71,7 +75,7 @@ impl SlotSet {
         self.bits == 0
     }
 
-    /// The least slot of the set.
+    /// The least slot of the set, `None` for the empty set.
     pub fn least(self) -> Option<u16>
         ensures none { IfNone result (self ≡ 0) }
         ensures bound { IfSome result (λ slot. slot < 40) }
@@ -89,5 +93,4 @@ impl SlotSet {
 /// Two sets with the same slots are one set.
 pub fn sets_are_their_slots()
     ensures { (a b : ℕ) → a < 2 ^ 40 → b < 2 ^ 40 → ((s : ℕ) → s < 40 → has_slot a s ≡ has_slot b s) → a ≡ b }
-{
-}
+{}

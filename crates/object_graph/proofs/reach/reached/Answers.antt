@@ -1,11 +1,10 @@
-use Rattle.std.proofs.Common.{rules, ◌≡◌, List, map, sym, subst, ap, ◌∙◌, Bool, true}
+use Rattle.std.proofs.Common.{rules, ◌≡◌, List, map, sym, subst, ap, ◌∙◌, true}
 use Rattle.std.specs.Bool.{IsTrue}
-use Rattle.std.specs.List.{All}
 use Rattle.std.specs.List.Sorted.{IsPermutation, IsNonDecreasingBy}
 use Rattle.std.proofs.lemmas.List.Sorted.{IsNonDecreasingBy-from_sort_by_key}
 use Rattle.object_graph.specs.NameParts.{NameParts}
 use Rattle.object_graph.specs.Names.{number_of}
-use Rattle.object_graph.specs.Graphs.{has_name, has_object, HasEachNameOnce, IsReachedFrom}
+use Rattle.object_graph.specs.Graphs.{has_name, has_object, IsReachedFrom}
 use Rattle.object_graph.specs.Walks.{AreReached}
 use Rattle.object_graph.specs.declared.names.Object.{Object}
 use Rattle.object_graph.proofs.Walks.{has_name-sorted, ascend}
@@ -27,6 +26,6 @@ returns-clause-exact c =
 pub returns-clause-ascending : goal.returns-clause-ascending
 returns-clause-ascending c =
     let sorted : IsNonDecreasingBy number_of c.sort_unstable_by_key.new.self.items =
-        IsNonDecreasingBy-from_sort_by_key number_of _ c.sort_unstable_by_key.ensures.sorted (λ a r q k. search rules) in
+    IsNonDecreasingBy-from_sort_by_key number_of _ c.sort_unstable_by_key.ensures.sorted (λ a r q k. search rules) in
     ascend c.in_ok-found.found.items c.in_ok-names.names.items c.sort_unstable_by_key.new.self.items c.in_ok-found.ensures.once
     (c.in_ok-names.ensures.names ∙ ap (map (λ (o : Object). o.name)) c.deref.ensures.value) c.in_ok-names.ensures.each c.sort_unstable_by_key.ensures.permutation sorted

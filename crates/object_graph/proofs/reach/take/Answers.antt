@@ -1,4 +1,4 @@
-use Rattle.std.proofs.Common.{rules, ℕ, List, ◌≡◌, ◌<◌, ◌++◌, ◌∷◌, [], false, length, get_or, sym, subst, ap, ◌∙◌}
+use Rattle.std.proofs.Common.{ℕ, List, ◌≡◌, ◌<◌, ◌++◌, ◌∷◌, [], false, length, sym, subst, ap, ◌∙◌}
 use Rattle.std.specs.List.{All, remove, slice_index_or}
 use Rattle.std.proofs.lemmas.List.Folds.{list_any_none}
 use Rattle.object_graph.specs.NameParts.{NameParts}
@@ -26,7 +26,7 @@ pub returns-in_ok-push-in-Some : goal.returns-in_ok-push-in-Some
 returns-in_ok-push-in-Some c =
     let left = c.args.left.now.items in
     let there : (c.in-Some.place < length left) × ((d : Object) → (slice_index_or left c.in-Some.place d).name ≡ c.args.name.now) =
-        subst (λ (xs : List Object). (c.in-Some.place < length xs) × ((d : Object) → (slice_index_or xs c.in-Some.place d).name ≡ c.args.name.now)) c.deref.ensures.value c.in-Some.ensures.some in
+    subst (λ (xs : List Object). (c.in-Some.place < length xs) × ((d : Object) → (slice_index_or xs c.in-Some.place d).name ≡ c.args.name.now)) c.deref.ensures.value c.in-Some.ensures.some in
     taken_there c.args.name.now c.args.todo.now.items left c.push.new.self.items c.remove-object.new.self.items c.in-Some.place c.remove-object.result
     there.0 c.remove-object.ensures.value there.1 c.in_ok-push-in-Some.ensures.items c.remove-object.ensures.items
 

@@ -1,6 +1,5 @@
-use Rattle.std.proofs.Common.{◌≡◌, ◌<◌, ◌==◌, ◌||◌, arith}
+use Rattle.std.proofs.Common.{◌<◌, arith}
 use Rattle.std.proofs.lemmas.Nat.{or_lt}
-use Rattle.object_graph.specs.Slots.{has_slot}
 use Rattle.object_graph.proofs.Sets.{bit-lt, has_slot-with}
 use Rattle.object_graph.proofs.slots.SlotSet.with.Goals as goal
 
