@@ -1,1 +1,7 @@
 pub mod Numbers
+pub mod Walks
+pub mod Options
+pub mod Splits
+pub mod Spellings
+pub mod Table
+pub mod OneMeaning

@@ -1,8 +1,10 @@
 //! The lines of scripts, and the texts of replies.
 #![tactic(auto)]
 
+mod grammar;
 mod line;
+mod meaning;
 mod words;
 
-pub use line::{BadLine, Line};
+pub use line::{BadLine, Line, read_line};
 pub use words::{name_of, number_of, split_at_byte};
