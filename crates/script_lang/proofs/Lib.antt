@@ -5,3 +5,4 @@ pub mod Splits
 pub mod Spellings
 pub mod Table
 pub mod OneMeaning
+pub mod Freed

@@ -4,7 +4,10 @@
 mod grammar;
 mod line;
 mod meaning;
+mod print;
+mod text;
 mod words;
 
 pub use line::{BadLine, Line, read_line};
+pub use text::{print_reply};
 pub use words::{name_of, number_of, split_at_byte};
