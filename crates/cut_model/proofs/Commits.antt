@@ -22,7 +22,7 @@ use Rattle.store_model.specs.Lawful.{IsOrderly}
 use Rattle.store_model.specs.Worlds.{is_unfreed, is_old}
 use Rattle.store_model.specs.Images.{shown_of, shown_in, shown}
 use Rattle.cut_model.specs.States.{state_of, state_after, KeepsOpening}
-use Rattle.cut_model.specs.CutPages.{Copied, Changed, CutPage, no_page, settled_with, settled_image, images_of_copy, images_of_change, with_commit}
+use Rattle.cut_model.specs.CutPages.{Copied, Changed, CutPage, bare_page, settled_with, settled_image, images_of_copy, images_of_change, with_commit}
 use Rattle.cut_model.specs.Sound.{IsSafeImage, IsBornRight, IsSoundPage, IsSound, IsFitCopy}
 use Rattle.cut_model.specs.Changes.{IsMade, IsCutAfter}
 use Rattle.cut_model.proofs.Views.{view_safe}
@@ -171,12 +171,12 @@ commit_keeps_cut w t opening pages after lawful m keeps is sound = λ page withi
     elim (cases_Bool (has_page t.pages_written page)) [
       | inl e ↦ elim (is.written page low e) [
         | inl q ↦ subst (IsSoundPage (state_after w t) opening page) (sym q)
-            (commit_keeps_written w t opening page (is.made page) (get_or pages page no_page) lawful m keeps (is.is_made page e) (sound page low))
+            (commit_keeps_written w t opening page (is.made page) (get_or pages page bare_page) lawful m keeps (is.is_made page e) (sound page low))
         | inr q ↦ subst (IsSoundPage (state_after w t) opening page) (sym q.2)
-            (commit_keeps_bare w t opening page (is.made page) (get_or pages page no_page) lawful m keeps q.0 q.1 (is.is_made page e) (sound page low))
+            (commit_keeps_bare w t opening page (is.made page) (get_or pages page bare_page) lawful m keeps q.0 q.1 (is.is_made page e) (sound page low))
       ]
       | inr e ↦ subst (IsSoundPage (state_after w t) opening page) (sym (is.others page e))
-          (commit_keeps_other w t opening page (get_or pages page no_page) lawful m keeps e (sound page low))
+          (commit_keeps_other w t opening page (get_or pages page bare_page) lawful m keeps e (sound page low))
     ]
 
 -- ---- a fit copy stays fit

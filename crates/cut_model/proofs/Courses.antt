@@ -391,7 +391,7 @@ runs_through w events cut number has is undisturbed legal runs =
     let u2 = all_right IsUndisturbing runs.copies rest u in
     let a = history_goes_on w runs.copies cut has u1 l1.0 in
     let w1 : World = after w runs.copies in
-    let n1 : (a.0).number ≡ number = a.2.number ∙ is in
+    let n1 : (a.0).number ≡ number = let p = a.2.number in omega arith in
     let copied : (page : ℕ) → page < w1.pages → IsCopiedOrClosed a.0 page = λ page low.
     let low0 : page < w.pages = subst (λ k. page < k) a.3 low in
     let c = runs.copied page low0 in
@@ -410,7 +410,7 @@ runs_through w events cut number has is undisturbed legal runs =
     let still_closed : 1 ≤ rank (c.0).phase = let f = c.2.further in omega arith in
     let d = event_goes_on w3 runs.marking c.0 c.1 u4.0 l3.1.0.1 in
     let w4 : World = next w3 runs.marking in
-    let same_number : number ≡ (c.0).number = sym (c.2.number ∙ (b.2.number ∙ n1)) in
+    let same_number : number ≡ (c.0).number = let p = c.2.number in let q = b.2.number in omega arith in
     let note : runs.marking.note ≡ marks (Some (c.0).number) = runs.marked.1 ∙ ap (λ n. marks (Some n)) same_number in
     let marked_may : AllowsReply w3 (Mark runs.workers) (marks (Some (c.0).number)) runs.marking.entry.reply =
     subst (λ n. AllowsReply w3 (Mark runs.workers) n runs.marking.entry.reply) note (subst (λ c. AllowsReply w3 c runs.marking.note runs.marking.entry.reply) runs.marked.0 l3.1.0.1) in
@@ -421,7 +421,7 @@ runs_through w events cut number has is undisturbed legal runs =
     let e = history_goes_on w4 runs.sweeps d.0 d.1 u4.1 l3.1.1 in
     let w5 : World = after w4 runs.sweeps in
     let far : 2 ≤ rank (e.0).phase = let f = e.2.further in omega arith in
-    let pages4 : w4.pages ≡ w.pages = d.3 ∙ (c.3 ∙ (b.3 ∙ a.3)) in
+    let pages4 : w4.pages ≡ w.pages = let p = d.3 in let q = c.3 in let r = b.3 in let s = a.3 in omega arith in
     let swept : (page : ℕ) → page < w5.pages → has_page (e.0).swept page ≡ true = λ page low.
     let low4 : page < w4.pages = subst (λ k. page < k) e.3 low in
     let s = runs.swept page (subst (λ k. page < k) pages4 low4) in

@@ -9,7 +9,7 @@ use Rattle.store_model.proofs.Members.{In, each_in}
 use Rattle.store_model.proofs.Cuts.{below_bound}
 use Rattle.cut_model.specs.States.{State, shown_by}
 use Rattle.cut_model.specs.Images.{objects_of}
-use Rattle.cut_model.specs.CutPages.{Copied, Changed, CutPage, no_page, committed_image, settled_with, settled_image, images_of_before, images_of_copy, images_of_change, images_of, objects_on, cut_graph}
+use Rattle.cut_model.specs.CutPages.{Copied, Changed, CutPage, bare_page, committed_image, settled_with, settled_image, images_of_before, images_of_copy, images_of_change, images_of, objects_on, cut_graph}
 use Rattle.cut_model.specs.Sound.{IsSafeObject, IsSafeImage, IsSoundPage, IsSound}
 use Rattle.cut_model.proofs.Flats.{in_flat, flat_in, in_below}
 
@@ -46,16 +46,16 @@ settled_shown s opening page p sound h =
 
 -- an object in an image of a page is in the graph of the cut
 pub in_cut_graph : (pages : List CutPage) (page : ℕ) (image : List SlotParts) (o : Object) → page < length pages
-    → In image (images_of (get_or pages page no_page)) → In o (objects_of page image) → In o (cut_graph pages)
+    → In image (images_of (get_or pages page bare_page)) → In o (objects_of page image) → In o (cut_graph pages)
 in_cut_graph pages page image o h i m =
-    flat_in (λ (page : ℕ). objects_on page (get_or pages page no_page)) (below (length pages)) page o (in_below (length pages) page h)
-    (flat_in (objects_of page) (images_of (get_or pages page no_page)) image o i m)
+    flat_in (λ (page : ℕ). objects_on page (get_or pages page bare_page)) (below (length pages)) page o (in_below (length pages) page h)
+    (flat_in (objects_of page) (images_of (get_or pages page bare_page)) image o i m)
 
 -- an object of the graph of a sound cut is safe
 pub cut_graph_safe : (s : State) (opening : Opening) (pages : List CutPage) (o : Object) → IsSound s opening pages → In o (cut_graph pages) → IsSafeObject opening o
 cut_graph_safe s opening pages o sound m =
-    let a = in_flat (λ (page : ℕ). objects_on page (get_or pages page no_page)) (below (length pages)) o m in
+    let a = in_flat (λ (page : ℕ). objects_on page (get_or pages page bare_page)) (below (length pages)) o m in
     let page : ℕ = a.0 in
-    let b = in_flat (objects_of page) (images_of (get_or pages page no_page)) o a.2 in
+    let b = in_flat (objects_of page) (images_of (get_or pages page bare_page)) o a.2 in
     let p = sound page (below_bound (length pages) page a.1) in
-    each_in (IsSafeObject opening) (objects_of page b.0) o (each_in (IsSafeImage opening page) (images_of (get_or pages page no_page)) b.0 p.images b.1) b.2
+    each_in (IsSafeObject opening) (objects_of page b.0) o (each_in (IsSafeImage opening page) (images_of (get_or pages page bare_page)) b.0 p.images b.1) b.2

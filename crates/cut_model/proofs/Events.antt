@@ -18,7 +18,7 @@ use Rattle.store_model.proofs.Members.{In}
 use Rattle.store_model.proofs.Opened.{commit_is_open}
 use Rattle.store_model.specs.Lawful.{IsOrderly}
 use Rattle.cut_model.specs.States.{State, state_of, state_after, KeepsOpening}
-use Rattle.cut_model.specs.CutPages.{Copied, Changed, CutPage, no_page, with_copy}
+use Rattle.cut_model.specs.CutPages.{Copied, Changed, CutPage, bare_page, with_copy}
 use Rattle.cut_model.specs.Sound.{IsSound, IsFit}
 use Rattle.cut_model.specs.Frames.{copy_now}
 use Rattle.cut_model.specs.Changes.{IsCutAfter, Adds, ChangesBy, Changes, GivesImages, ends_copying}
@@ -60,48 +60,48 @@ event_keeps_sound w opening call note reply pages after lawful keeps may stays c
 -- ---- a fit copy stays fit
 
 abbrev GivesOf : Transaction → List CutPage → Type 0
-GivesOf t after = (page : ℕ) → page < length after → has_page t.pages_written page ≡ true → is_some (get_or after page no_page).after ≡ true
+GivesOf t after = (page : ℕ) → page < length after → has_page t.pages_written page ≡ true → is_some (get_or after page bare_page).after ≡ true
 
 fit_commit : (w : World) (t : Transaction) (opening : Opening) (pages after : List CutPage) (page : ℕ) (c : Copied) → IsOrderly w → In t w.transactions → page < length pages
-    → IsCutAfter w t pages after → GivesOf t after → IsFit (state_of w) opening page (get_or pages page no_page) c → IsFit (state_after w t) opening page (get_or after page no_page) c
+    → IsCutAfter w t pages after → GivesOf t after → IsFit (state_of w) opening page (get_or pages page bare_page) c → IsFit (state_after w t) opening page (get_or after page bare_page) c
 fit_commit w t opening pages after page c lawful m within is given fit = elim (cases_Bool (has_page t.pages_written page)) [
   | inl e ↦ elim (is.written page within e) [
     | inl q ↦ subst (λ p. IsFit (state_after w t) opening page p c) (sym q) (elim fit [
       | inl there ↦ inl there
-      | inr f ↦ inr (fit_stays_written w t opening page (is.made page) (get_or pages page no_page) c f)
+      | inr f ↦ inr (fit_stays_written w t opening page (is.made page) (get_or pages page bare_page) c f)
     ])
     | inr skipped ↦
         let some = given page (let l = is.all in omega arith) e in
-        let none : (get_or after page no_page).after ≡ None = ap (λ (p : CutPage). p.after) skipped.2 ∙ skipped.1 in
-        let z : is_some (get_or after page no_page).after ≡ false = ap (λ (o : Option Changed). is_some o) none in
+        let none : (get_or after page bare_page).after ≡ None = ap (λ (p : CutPage). p.after) skipped.2 ∙ skipped.1 in
+        let z : is_some (get_or after page bare_page).after ≡ false = ap (λ (o : Option Changed). is_some o) none in
         cc
   ]
   | inr e ↦ subst (λ p. IsFit (state_after w t) opening page p c) (sym (is.others page e)) (elim fit [
     | inl there ↦ inl there
-    | inr f ↦ inr (fit_stays_other w t opening page (get_or pages page no_page) c lawful m e f)
+    | inr f ↦ inr (fit_stays_other w t opening page (get_or pages page bare_page) c lawful m e f)
   ])
 ]
 
 -- another copy is added
 fit_beside : (s : State) (opening : Opening) (pages after : List CutPage) (page other : ℕ) (c d : Copied) → Adds other d pages after
-    → IsFit s opening page (get_or pages page no_page) c → IsFit s opening page (get_or after page no_page) c
+    → IsFit s opening page (get_or pages page bare_page) c → IsFit s opening page (get_or after page bare_page) c
 fit_beside s opening pages after page other c d adds fit = elim (cases_eq page other) [
   | inl e ↦
-      let g : get_or after other no_page ≡ with_copy d (get_or pages other no_page) =
-      ap (λ ps. get_or ps other no_page) adds.1 ∙ get_or-set_same pages other (with_copy d (get_or pages other no_page)) no_page adds.0 in
-      inl (subst (λ k. is_some (get_or after k no_page).copy ≡ true) (sym e) (ap (λ (p : CutPage). is_some p.copy) g))
+      let g : get_or after other bare_page ≡ with_copy d (get_or pages other bare_page) =
+      ap (λ ps. get_or ps other bare_page) adds.1 ∙ get_or-set_same pages other (with_copy d (get_or pages other bare_page)) bare_page adds.0 in
+      inl (subst (λ k. is_some (get_or after k bare_page).copy ≡ true) (sym e) (ap (λ (p : CutPage). is_some p.copy) g))
   | inr e ↦
-      let g : get_or after page no_page ≡ get_or pages page no_page =
-      ap (λ ps. get_or ps page no_page) adds.1 ∙ get_or-set_other pages other page (with_copy d (get_or pages other no_page)) no_page e in
+      let g : get_or after page bare_page ≡ get_or pages page bare_page =
+      ap (λ ps. get_or ps page bare_page) adds.1 ∙ get_or-set_other pages other page (with_copy d (get_or pages other bare_page)) bare_page e in
       subst (λ p. IsFit s opening page p c) (sym g) fit
 ]
 
 answer_keeps_fit : (w : World) (opening : Opening) (call : Call) (note : Note) (reply : Reply) (pages after : List CutPage) (page : ℕ) (c : Copied) → IsOrderly w
     → page < length pages → first_refusal w call note ≡ None → ends_copying call ≡ false → ChangesBy w opening call pages after → GivesImages w call after
-    → IsFit (state_of w) opening page (get_or pages page no_page) c → IsFit (state_of (after_answer w call note reply)) opening page (get_or after page no_page) c
+    → IsFit (state_of w) opening page (get_or pages page bare_page) c → IsFit (state_of (after_answer w call note reply)) opening page (get_or after page bare_page) c
 answer_keeps_fit w opening (New t p) note reply pages after page c lawful within may stays changes given fit =
-    subst (λ s. IsFit s opening page (get_or after page no_page) c) (sym (state-with_new w t (new_name w t p)))
-    (subst (λ ps. IsFit (state_of w) opening page (get_or ps page no_page) c) (sym changes) fit)
+    subst (λ s. IsFit s opening page (get_or after page bare_page) c) (sym (state-with_new w t (new_name w t p)))
+    (subst (λ ps. IsFit (state_of w) opening page (get_or ps page bare_page) c) (sym changes) fit)
 answer_keeps_fit w opening (Commit t) note reply pages after page c lawful within may stays changes given fit =
     fit_commit w (transaction w t) opening pages after page c lawful (commit_is_open w t note may) within changes given fit
 answer_keeps_fit w opening (Copy p) note reply pages after page c lawful within may stays changes given fit = fit_beside (state_of w) opening pages after page p c (copy_now w p) changes fit
@@ -109,13 +109,13 @@ answer_keeps_fit w opening (HandIn p number seen) note reply pages after page c 
 answer_keeps_fit w opening (Sweep p) note reply pages after page c lawful within may stays changes given fit = cc
 answer_keeps_fit w opening Reopen note reply pages after page c lawful within may stays changes given fit = cc
 answer_keeps_fit w opening _ note reply pages after page c lawful within may stays changes given fit =
-    subst (λ ps. IsFit (state_of w) opening page (get_or ps page no_page) c) (sym changes) fit
+    subst (λ ps. IsFit (state_of w) opening page (get_or ps page bare_page) c) (sym changes) fit
 
 pub event_keeps_fit : (w : World) (opening : Opening) (call : Call) (note : Note) (reply : Reply) (pages after : List CutPage) (page : ℕ) (c : Copied) → IsOrderly w
     → page < length pages → AllowsReply w call note reply → ends_copying call ≡ false → Changes w opening call reply pages after → GivesImages w call after
-    → IsFit (state_of w) opening page (get_or pages page no_page) c → IsFit (state_of (after_reply w call note reply)) opening page (get_or after page no_page) c
+    → IsFit (state_of w) opening page (get_or pages page bare_page) c → IsFit (state_of (after_reply w call note reply)) opening page (get_or after page bare_page) c
 event_keeps_fit w opening call note (Refused why) pages after page c lawful within may stays changes given fit =
-    subst (λ s. IsFit s opening page (get_or after page no_page) c) (sym (state-after_refusal w call note why))
-    (subst (λ ps. IsFit (state_of w) opening page (get_or ps page no_page) c) (sym changes) fit)
+    subst (λ s. IsFit s opening page (get_or after page bare_page) c) (sym (state-after_refusal w call note why))
+    (subst (λ ps. IsFit (state_of w) opening page (get_or ps page bare_page) c) (sym changes) fit)
 event_keeps_fit w opening call note reply pages after page c lawful within may stays changes given fit =
     answer_keeps_fit w opening call note reply pages after page c lawful within may.0 stays changes given fit

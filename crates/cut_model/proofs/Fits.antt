@@ -11,7 +11,7 @@ use Rattle.store_model.specs.Causes.{has_page}
 use Rattle.store_model.proofs.Lists.{find_in}
 use Rattle.store_model.specs.Lawful.{IsOrderly}
 use Rattle.cut_model.specs.States.{State, state_of, KeepsOpening, shown_by}
-use Rattle.cut_model.specs.CutPages.{Copied, Changed, CutPage, no_page, committed_image, settled_with, images_of_copy, images_of_change, kept_beside, with_copy}
+use Rattle.cut_model.specs.CutPages.{Copied, Changed, CutPage, bare_page, committed_image, settled_with, images_of_copy, images_of_change, kept_beside, with_copy}
 use Rattle.cut_model.specs.Sound.{IsSafeImage, IsSoundPage, IsSound, IsFitCopy}
 use Rattle.cut_model.specs.Frames.{writer_of, copy_with, copy_now}
 use Rattle.cut_model.proofs.Views.{committed_safe, view_safe}
@@ -89,22 +89,22 @@ pub page_keeps_cut : (s : State) (opening : Opening) (pages : List CutPage) (pag
 page_keeps_cut s opening pages page p sound new = λ k within. elim (cases_eq k page) [
   | inl e ↦
       let low : page < length pages = omega (arith, within, e, length-set pages page p) in
-      let g : get_or (set pages page p) page no_page ≡ p = get_or-set_same pages page p no_page low in
-      subst (λ i. IsSoundPage s opening i (get_or (set pages page p) i no_page)) (sym e) (subst (IsSoundPage s opening page) (sym g) new)
+      let g : get_or (set pages page p) page bare_page ≡ p = get_or-set_same pages page p bare_page low in
+      subst (λ i. IsSoundPage s opening i (get_or (set pages page p) i bare_page)) (sym e) (subst (IsSoundPage s opening page) (sym g) new)
   | inr e ↦
-      let g : get_or (set pages page p) k no_page ≡ get_or pages k no_page = get_or-set_other pages page k p no_page e in
+      let g : get_or (set pages page p) k bare_page ≡ get_or pages k bare_page = get_or-set_other pages page k p bare_page e in
       let low : k < length pages = omega (arith, within, length-set pages page p) in
       subst (IsSoundPage s opening k) (sym g) (sound k low)
 ]
 
 -- so a copy that is handed in keeps a cut sound, and the page's frame too
 pub fit_copy_keeps_cut : (s : State) (opening : Opening) (pages : List CutPage) (page : ℕ) (c : Copied) → IsSound s opening pages → page < length pages
-    → IsFitCopy s opening page (get_or pages page no_page) c → IsSound s opening (set pages page (with_copy c (get_or pages page no_page)))
+    → IsFitCopy s opening page (get_or pages page bare_page) c → IsSound s opening (set pages page (with_copy c (get_or pages page bare_page)))
 fit_copy_keeps_cut s opening pages page c sound within fit =
-    page_keeps_cut s opening pages page (with_copy c (get_or pages page no_page)) sound
-    (fit_copy_keeps_page s opening page (get_or pages page no_page) c (sound page within) fit)
+    page_keeps_cut s opening pages page (with_copy c (get_or pages page bare_page)) sound
+    (fit_copy_keeps_page s opening page (get_or pages page bare_page) c (sound page within) fit)
 
 pub frame_keeps_cut : (w : World) (opening : Opening) (pages : List CutPage) (page : ℕ) → IsOrderly w → KeepsOpening w opening → IsSound (state_of w) opening pages → page < length pages
-    → IsSound (state_of w) opening (set pages page (with_copy (copy_now w page) (get_or pages page no_page)))
+    → IsSound (state_of w) opening (set pages page (with_copy (copy_now w page) (get_or pages page bare_page)))
 frame_keeps_cut w opening pages page lawful keeps sound within =
-    fit_copy_keeps_cut (state_of w) opening pages page (copy_now w page) sound within (frame_is_fit w opening page (get_or pages page no_page) lawful keeps)
+    fit_copy_keeps_cut (state_of w) opening pages page (copy_now w page) sound within (frame_is_fit w opening page (get_or pages page bare_page) lawful keeps)

@@ -18,27 +18,26 @@ use Rattle.store_model.proofs.Members.{each_in}
 use Rattle.store_model.proofs.Lawfulness.{fresh_is_lawful_world}
 use Rattle.store_model.proofs.Paths.{has_name_in}
 use Rattle.store_model.specs.Worlds.{IsLost}
-use Rattle.cut_model.specs.CutPages.{CutPage}
-use Rattle.cut_model.specs.Standing.{IsCutStanding, IsInPhase, IsStanding, TurnsThrough}
+use Rattle.cut_model.specs.Standing.{CutBeside, nothing_copied, IsCutStanding, IsInPhase, IsStanding, TurnsThrough}
 use Rattle.cut_model.proofs.Flats.{in_below}
 use Rattle.cut_model.proofs.Sweeps.{lost_is_freed}
 use Rattle.cut_model.proofs.Phases.{cut_none, right_phase, find_none_each, event_stands}
 
 -- ---- the fresh store
 
-pub fresh_stands : (pages : ℕ) → 0 < pages → IsStanding (fresh_world pages) []
+pub fresh_stands : (pages : ℕ) → 0 < pages → IsStanding (fresh_world pages) (nothing_copied 0)
 fresh_stands pages some = record { lawful = fresh_is_lawful_world pages some; cut = tt }
 
 -- ---- a history
 
-pub history_stands : (w : World) (pages : List CutPage) (events : List Event) (last : List CutPage) → IsStanding w pages → IsLegal w events → TurnsThrough w pages events last
+pub history_stands : (w : World) (pages : CutBeside) (events : List Event) (last : CutBeside) → IsStanding w pages → IsLegal w events → TurnsThrough w pages events last
     → IsStanding (after w events) last
 history_stands w pages [] last stands legal turns = subst (IsStanding w) (sym turns) stands
 history_stands w pages (e ∷ events) last stands legal turns =
     history_stands (next w e) turns.0 events last (event_stands w e.entry.call e.note e.entry.reply pages turns.0 stands legal.0.1 turns.1) legal.1 turns.2
 
 -- a freed name is out of reach of the root and of every open transaction
-pub freed_is_out : (w : World) (pages : List CutPage) (name : NameParts) → IsStanding w pages → is_freed w name ≡ true → IsOutOfReach w name
+pub freed_is_out : (w : World) (pages : CutBeside) (name : NameParts) → IsStanding w pages → is_freed w name ≡ true → IsOutOfReach w name
 freed_is_out w pages name stands h = each_in (IsOutOfReach w) w.freed name stands.lawful.freed (has_name_in w.freed name h)
 
 -- ---- an ended cut
@@ -53,16 +52,16 @@ all_swept w cut page h within =
     let none : find test (below w.pages) ≡ None = none_unswept (missing w cut.swept) h in
     not-false (has_page cut.swept page) (find_none_each test (below w.pages) page none (in_below w.pages page within))
 
-end_phase : (w : World) (cut : OpenedCut) (phase : Phase) (pages : List CutPage) (name : NameParts) → is_phase phase Sweeping ≡ true → unswept w cut ≡ None
+end_phase : (w : World) (cut : OpenedCut) (phase : Phase) (pages : CutBeside) (name : NameParts) → is_phase phase Sweeping ≡ true → unswept w cut ≡ None
     → IsInPhase w cut phase pages → IsLost cut.opening name → is_freed w name ≡ true
 end_phase w cut Copying pages name right all stands lost = cc
 end_phase w cut Closed pages name right all stands lost = cc
 end_phase w cut Sweeping pages name right all stands lost =
-    lost_is_freed w cut.opening pages cut.swept name stands.doomed
+    lost_is_freed w cut.opening pages.roots pages.pages cut.swept name stands.doomed
     (λ page within. let low : page < w.pages = let e = stands.all in omega arith in all_swept w cut page all low) lost
 
 -- where the end of a cut may be answered, all that was out of reach as it opened is freed
-pub end_has_freed : (w : World) (cut : OpenedCut) (note : Note) (pages : List CutPage) (name : NameParts) → IsStanding w pages → w.cut ≡ Some cut → first_refusal w EndCut note ≡ None
+pub end_has_freed : (w : World) (cut : OpenedCut) (note : Note) (pages : CutBeside) (name : NameParts) → IsStanding w pages → w.cut ≡ Some cut → first_refusal w EndCut note ≡ None
     → IsLost cut.opening name → is_freed w name ≡ true
 end_has_freed w cut note pages name stands is may lost = by_cut w.cut is may stands.cut
   where

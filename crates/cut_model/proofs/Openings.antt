@@ -18,7 +18,7 @@ use Rattle.store_model.proofs.Paths.{in_has_object}
 use Rattle.store_model.specs.Lawful.{IsOrderly}
 use Rattle.store_model.specs.Worlds.{is_unfreed}
 use Rattle.cut_model.specs.States.{State, state_of, state_after, generation_at, KeepsOpening}
-use Rattle.cut_model.specs.CutPages.{no_page}
+use Rattle.cut_model.specs.CutPages.{bare_page}
 use Rattle.cut_model.specs.Sound.{IsBornRight, IsSoundPage, IsSound}
 use Rattle.cut_model.specs.Changes.{ends_copying}
 use Rattle.store_model.proofs.Keeps.{opening_keeps_lost, event_keeps_lost}
@@ -76,8 +76,8 @@ none_has : (slot : ℕ) → has_slot 0 slot ≡ false
 none_has slot = ap (λ n. n == 1) (bit_at-zero slot)
 
 -- a cut with nothing in it is sound
-pub empty_cut_is_sound : (w : World) (n : ℕ) → IsSound (state_of w) (opening_of w) (replicate n no_page)
-empty_cut_is_sound w n = λ page within. subst (IsSoundPage (state_of w) (opening_of w) page) (sym (get-replicate_same n page no_page)) (record {
+pub empty_cut_is_sound : (w : World) (n : ℕ) → IsSound (state_of w) (opening_of w) (replicate n bare_page)
+empty_cut_is_sound w n = λ page within. subst (IsSoundPage (state_of w) (opening_of w) page) (sym (get-replicate_same n page bare_page)) (record {
   settled = tt;
   images = tt;
   born = each_from (IsBornRight (opening_of w) page 0) (filter (is_unfreed w.freed) w.graph) (λ o m on.

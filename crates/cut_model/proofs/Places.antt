@@ -15,7 +15,7 @@ use Rattle.store_model.specs.Lawful.{IsOrderly}
 use Rattle.store_model.specs.Worlds.{is_unfreed}
 use Rattle.cut_model.specs.States.{unfreed_at, generation_with, generation_at}
 use Rattle.cut_model.specs.Images.{no_slot, object_in, objects_of}
-use Rattle.cut_model.specs.CutPages.{CutPage, no_page, settled_image, cut_graph, IsMarked}
+use Rattle.cut_model.specs.CutPages.{CutPage, bare_page, settled_image, cut_graph, IsMarked}
 use Rattle.cut_model.specs.Sound.{IsSafeObject}
 use Rattle.cut_model.specs.Doomed.{IsDoomed, AreDoomedOn, AreMarks, is_used, is_doomed}
 use Rattle.cut_model.proofs.Flats.{in_objects_of, objects_of_in}
@@ -63,12 +63,12 @@ and_not false b c h = cc
 
 -- the slots in use in the settled image, neither born nor marked, are those of the doomed names
 pub doomed_slots : (opening : Opening) (roots : List NameParts) (pages : List CutPage) (marks : ℕ → ℕ) (page slots : ℕ) (image : List SlotParts)
-    → ((o : Object) → In o (cut_graph pages) → IsSafeObject opening o) → page < length pages → settled_image (get_or pages page no_page) ≡ Some image
-    → AreMarks roots pages marks → ((slot : ℕ) → has_slot slots slot ≡ is_doomed image (get_or pages page no_page).born (marks page) slot)
+    → ((o : Object) → In o (cut_graph pages) → IsSafeObject opening o) → page < length pages → settled_image (get_or pages page bare_page) ≡ Some image
+    → AreMarks roots pages marks → ((slot : ℕ) → has_slot slots slot ≡ is_doomed image (get_or pages page bare_page).born (marks page) slot)
     → AreDoomedOn roots pages page slots
 doomed_slots opening roots pages marks page slots image safe within settled marked is = λ slot. (
   λ h.
-      let a = and_not (is_used image slot) (has_slot (get_or pages page no_page).born slot) (has_slot (marks page) slot) (sym (is slot) ∙ h) in
+      let a = and_not (is_used image slot) (has_slot (get_or pages page bare_page).born slot) (has_slot (marks page) slot) (sym (is slot) ∙ h) in
       let o : Object = object_in page slot (get_or image slot no_slot) in
       let low = used_within image slot a.0 in
       let doomed : IsDoomed roots pages o.name = record {
@@ -98,17 +98,17 @@ doomed_slots opening roots pages marks page slots image safe within settled mark
           absurd (un (subst (IsMarked roots pages) same n.1))
     ]
 
-    doomed_here : (slot : ℕ) (name : NameParts) → IsDoomed roots pages name → name.page ≡ page → name.slot ≡ slot → is_doomed image (get_or pages page no_page).born (marks page) slot ≡ true
+    doomed_here : (slot : ℕ) (name : NameParts) → IsDoomed roots pages name → name.page ≡ page → name.slot ≡ slot → is_doomed image (get_or pages page bare_page).born (marks page) slot ≡ true
     doomed_here slot name d on at =
-        let e : settled_image (get_or pages page no_page) ≡ Some d.image = subst (λ k. settled_image (get_or pages k no_page) ≡ Some d.image) on d.settled in
+        let e : settled_image (get_or pages page bare_page) ≡ Some d.image = subst (λ k. settled_image (get_or pages k bare_page) ≡ Some d.image) on d.settled in
         let same : d.image ≡ image = cc in
         let shown : In d.object (objects_of page image) = subst (λ i. In d.object (objects_of page i)) same (subst (λ k. In d.object (objects_of k d.image)) on d.shown) in
         let s = in_objects_of page image d.object shown in
         let is_slot : s.slot ≡ slot = sym (ap (λ (o : Object). o.name.slot) s.is) ∙ (ap (λ (n : NameParts). n.slot) d.named ∙ at) in
         let used : is_used image slot ≡ true = subst (λ k. is_used image k ≡ true) is_slot s.in_use in
-        let graph = in_cut_graph pages page image d.object within (settled_in (get_or pages page no_page) image settled) shown in
-        let unborn : has_slot (get_or pages page no_page).born slot ≡ false =
-        subst (λ k. has_slot (get_or pages page no_page).born k ≡ false) at (subst (λ k. has_slot (get_or pages k no_page).born name.slot ≡ false) on d.unborn) in
+        let graph = in_cut_graph pages page image d.object within (settled_in (get_or pages page bare_page) image settled) shown in
+        let unborn : has_slot (get_or pages page bare_page).born slot ≡ false =
+        subst (λ k. has_slot (get_or pages page bare_page).born k ≡ false) at (subst (λ k. has_slot (get_or pages k bare_page).born name.slot ≡ false) on d.unborn) in
         let unmarked : has_slot (marks page) slot ≡ false = subst (λ k. has_slot (marks page) k ≡ false) at (unmarked_here name d.object graph d.named on d.unmarked) in
-        and_from (is_used image slot) (not (has_slot (get_or pages page no_page).born slot) && not (has_slot (marks page) slot)) used
-        (and_from (not (has_slot (get_or pages page no_page).born slot)) (not (has_slot (marks page) slot)) (ap not unborn) (ap not unmarked))
+        and_from (is_used image slot) (not (has_slot (get_or pages page bare_page).born slot) && not (has_slot (marks page) slot)) used
+        (and_from (not (has_slot (get_or pages page bare_page).born slot)) (not (has_slot (marks page) slot)) (ap not unborn) (ap not unmarked))

@@ -20,7 +20,7 @@ use Rattle.store_model.specs.Worlds.{is_unfreed, is_old, IsLost}
 use Rattle.store_model.specs.Images.{shown}
 use Rattle.cut_model.specs.States.{State, state_of}
 use Rattle.cut_model.specs.Images.{objects_of}
-use Rattle.cut_model.specs.CutPages.{CutPage, no_page, settled_image, cut_graph, IsMarked}
+use Rattle.cut_model.specs.CutPages.{CutPage, bare_page, settled_image, cut_graph, IsMarked}
 use Rattle.cut_model.specs.Sound.{IsBornRight, IsSound, IsClosedBeside}
 use Rattle.cut_model.specs.Doomed.{IsDoomed, IsSafeToFree, KeepsDoomed}
 use Rattle.cut_model.proofs.Shown.{one_each, in_shown, shows_object}
@@ -35,13 +35,13 @@ reached_unfreed w name freed reached = elim (cases_Bool (is_freed w name)) [
 
 -- an unfreed object is in the settled image of its page
 pub settled_has : (w : World) (opening : Opening) (pages : List CutPage) (o : Object) → IsClosedBeside w opening pages → In o w.graph → is_unfreed w.freed o ≡ true
-    → (o.name.page < length pages) × (settled_image (get_or pages o.name.page no_page) ≡ Some (shown w o.name.page))
+    → (o.name.page < length pages) × (settled_image (get_or pages o.name.page bare_page) ≡ Some (shown w o.name.page))
     × In o (objects_of o.name.page (shown w o.name.page))
 settled_has w opening pages o closed m u =
     let placed = each_in (λ (o : Object). IsPlaced w.pages (slots_of w) o.name) w.graph o closed.orderly.placed m in
     let within : o.name.page < length pages = let p = placed.0 in let e = closed.all in omega arith in (
       within,
-      settled_shown (state_of w) opening o.name.page (get_or pages o.name.page no_page) (closed.sound o.name.page within) (closed.copied o.name.page within),
+      settled_shown (state_of w) opening o.name.page (get_or pages o.name.page bare_page) (closed.sound o.name.page within) (closed.copied o.name.page within),
       shows_object (slots_of w o.name.page) (fields_of w o.name.page) w.graph w.freed o (one_each w.graph w.freed closed.orderly.counted closed.orderly.last) m u placed.1,
     )
 
@@ -50,7 +50,7 @@ pub graph_in_cut : (w : World) (opening : Opening) (pages : List CutPage) (o : O
 graph_in_cut w opening pages o closed m u =
     let h = settled_has w opening pages o closed m u in
     in_cut_graph pages o.name.page (shown w o.name.page) o h.0
-    (settled_in (get_or pages o.name.page no_page) (shown w o.name.page) h.1) h.2
+    (settled_in (get_or pages o.name.page bare_page) (shown w o.name.page) h.1) h.2
 
 -- a path from what is reached is a path in the cut
 path_in_cut : (w : World) (opening : Opening) (pages : List CutPage) (first : NameParts) (rest : List NameParts) (last : NameParts)
@@ -87,10 +87,10 @@ reached_is_marked w opening pages name closed reached = (
 
 -- a slot in use in a settled image, neither born nor marked, has an unfreed name that was there and is out of reach
 pub doomed_is_safe : (w : World) (opening : Opening) (pages : List CutPage) (page : ℕ) (image : List SlotParts) (o : Object) → IsClosedBeside w opening pages
-    → page < length pages → settled_image (get_or pages page no_page) ≡ Some image → In o (objects_of page image)
-    → has_slot (get_or pages page no_page).born o.name.slot ≡ false → ¬ IsMarked (starts w) pages o.name → IsSafeToFree w opening o.name
+    → page < length pages → settled_image (get_or pages page bare_page) ≡ Some image → In o (objects_of page image)
+    → has_slot (get_or pages page bare_page).born o.name.slot ≡ false → ¬ IsMarked (starts w) pages o.name → IsSafeToFree w opening o.name
 doomed_is_safe w opening pages page image o closed within settled m unborn unmarked =
-    let p : CutPage = get_or pages page no_page in
+    let p : CutPage = get_or pages page bare_page in
     let sound = closed.sound page within in
     let e = settled_shown (state_of w) opening page p sound (closed.copied page within) in
     let same : image ≡ shown w page = cc in
@@ -139,7 +139,7 @@ lost_is_doomed w opening pages name closed lost unfreed =
     let u : is_unfreed w.freed o ≡ true = subst (λ n. not (has_name w.freed n) ≡ true) (sym a.2) unfreed in
     let h = settled_has w opening pages o closed a.1 u in
     let sound = closed.sound o.name.page h.0 in
-    let born = each_in (IsBornRight opening o.name.page (get_or pages o.name.page no_page).born) (filter (is_unfreed w.freed) w.graph) o sound.born (filter_in (is_unfreed w.freed) w.graph o a.1 u) refl in
+    let born = each_in (IsBornRight opening o.name.page (get_or pages o.name.page bare_page).born) (filter (is_unfreed w.freed) w.graph) o sound.born (filter_in (is_unfreed w.freed) w.graph o a.1 u) refl in
     let old : is_old opening o.name ≡ true = subst (λ n. is_old opening n ≡ true) (sym a.2) lost.old in
     let unmarked : ¬ IsMarked (starts w) pages o.name = subst (λ n. ¬ IsMarked (starts w) pages n) (sym a.2) (lost_is_unmarked w opening pages name closed lost) in
     let doomed : IsDoomed (starts w) pages o.name = record {
@@ -156,11 +156,11 @@ lost_is_doomed w opening pages name closed lost unfreed =
 
 -- ---- the closing
 
-pub closing_keeps_doomed : (w : World) (opening : Opening) (pages : List CutPage) → IsClosedBeside w opening pages → KeepsDoomed w opening pages []
+pub closing_keeps_doomed : (w : World) (opening : Opening) (pages : List CutPage) → IsClosedBeside w opening pages → KeepsDoomed w opening (starts w) pages []
 closing_keeps_doomed w opening pages closed = record {
   safe = λ name doomed unswept. subst (IsSafeToFree w opening) doomed.named
       (doomed_is_safe w opening pages name.page doomed.image doomed.object closed doomed.within doomed.settled doomed.shown
-      (subst (λ (n : NameParts). has_slot (get_or pages name.page no_page).born n.slot ≡ false) (sym doomed.named) doomed.unborn)
+      (subst (λ (n : NameParts). has_slot (get_or pages name.page bare_page).born n.slot ≡ false) (sym doomed.named) doomed.unborn)
       (subst (λ n. ¬ IsMarked (starts w) pages n) (sym doomed.named) doomed.unmarked));
   lost = λ name lost unfreed. (refl, lost_is_doomed w opening pages name closed lost unfreed);
 }

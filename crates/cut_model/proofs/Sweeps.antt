@@ -7,7 +7,7 @@ use Rattle.object_graph.specs.Slots.{has_slot}
 use Rattle.object_graph.specs.declared.names.Object.{Object}
 use Rattle.object_graph.specs.Graphs.{has_name, objects_at}
 use Rattle.object_graph.specs.Slots.{below, slots_in}
-use Rattle.store_model.specs.Worlds.{World, Opening, OpenedCut, starts, is_freed, unfreed, IsLost}
+use Rattle.store_model.specs.Worlds.{World, Opening, OpenedCut, is_freed, unfreed, IsLost}
 use Rattle.store_model.specs.Causes.{has_page}
 use Rattle.store_model.specs.Replies.{names_in, IsGarbage, MayFree}
 use Rattle.store_model.specs.Steps.{with_page, swept}
@@ -74,9 +74,9 @@ list_all_from p [] h = refl
 list_all_from p (x ∷ xs) h = and_from (p x) (list_all p xs) (h x (inl refl)) (list_all_from p xs (λ y m. h y (inr m)))
 
 -- a sweep that frees the doomed slots of a page is allowed
-pub doomed_may_be_freed : (w : World) (cut : OpenedCut) (pages : List CutPage) (page slots : ℕ) → IsOrderly w → KeepsDoomed w cut.opening pages cut.swept
-    → has_page cut.swept page ≡ false → AreDoomedOn (starts w) pages page slots → MayFree w cut.opening page slots
-doomed_may_be_freed w cut pages page slots lawful keeps unswept doomed = record {
+pub doomed_may_be_freed : (w : World) (cut : OpenedCut) (roots : List NameParts) (pages : List CutPage) (page slots : ℕ) → IsOrderly w → KeepsDoomed w cut.opening roots pages cut.swept
+    → has_page cut.swept page ≡ false → AreDoomedOn roots pages page slots → MayFree w cut.opening page slots
+doomed_may_be_freed w cut roots pages page slots lawful keeps unswept doomed = record {
   one_each = list_all_from (λ slot. length (filter (is_unfreed w.freed) (objects_at w.graph page slot)) == 1) (slots_in slots) (λ slot m.
       let a = in_filter (has_slot slots) (below 40) slot m in
       let n = (doomed slot).0 a.1 in
@@ -113,9 +113,9 @@ doomed_may_be_freed w cut pages page slots lawful keeps unswept doomed = record 
 -- ---- events after the closing
 
 -- what isn't freed by this event on a page that isn't swept stays as it was
-pub doomed_stays : (w after : World) (opening : Opening) (pages : List CutPage) (swept : List ℕ) → IsOrderly after → Follows w after → after.freed ≡ w.freed
-    → KeepsDoomed w opening pages swept → KeepsDoomed after opening pages swept
-doomed_stays w after opening pages swept lawful follows same keeps = record {
+pub doomed_stays : (w after : World) (opening : Opening) (roots : List NameParts) (pages : List CutPage) (swept : List ℕ) → IsOrderly after → Follows w after → after.freed ≡ w.freed
+    → KeepsDoomed w opening roots pages swept → KeepsDoomed after opening roots pages swept
+doomed_stays w after opening roots pages swept lawful follows same keeps = record {
   safe = λ name doomed unswept.
       let safe = keeps.safe name doomed unswept in record {
         there = name_stays w after name follows safe.there;
@@ -140,9 +140,9 @@ has-with_page page other pages h = by_test (has_page pages page) refl h
     ]
 
 -- a sweep of a page leaves the others, and frees what was lost on it
-pub sweep_keeps_doomed : (w : World) (cut : OpenedCut) (pages : List CutPage) (page slots : ℕ) → IsOrderly (swept w page slots) → MayFree w cut.opening page slots
-    → KeepsDoomed w cut.opening pages cut.swept → KeepsDoomed (swept w page slots) cut.opening pages (with_page page cut.swept)
-sweep_keeps_doomed w cut pages page slots lawful may keeps = record {
+pub sweep_keeps_doomed : (w : World) (cut : OpenedCut) (roots : List NameParts) (pages : List CutPage) (page slots : ℕ) → IsOrderly (swept w page slots) → MayFree w cut.opening page slots
+    → KeepsDoomed w cut.opening roots pages cut.swept → KeepsDoomed (swept w page slots) cut.opening roots pages (with_page page cut.swept)
+sweep_keeps_doomed w cut roots pages page slots lawful may keeps = record {
   safe = λ name doomed unswept.
       let p = has-with_page page name.page cut.swept unswept in
       let safe = keeps.safe name doomed p.0 in record {
@@ -190,9 +190,9 @@ sweep_keeps_doomed w cut pages page slots lawful may keeps = record {
         ]
 
 -- where every page is swept all that was lost is freed
-pub lost_is_freed : (w : World) (opening : Opening) (pages : List CutPage) (swept : List ℕ) (name : NameParts) → KeepsDoomed w opening pages swept
+pub lost_is_freed : (w : World) (opening : Opening) (roots : List NameParts) (pages : List CutPage) (swept : List ℕ) (name : NameParts) → KeepsDoomed w opening roots pages swept
     → ((page : ℕ) → page < length pages → has_page swept page ≡ true) → IsLost opening name → is_freed w name ≡ true
-lost_is_freed w opening pages swept name keeps all lost = elim (cases_Bool (is_freed w name)) [
+lost_is_freed w opening roots pages swept name keeps all lost = elim (cases_Bool (is_freed w name)) [
   | inl e ↦ e
   | inr e ↦
       let d = keeps.lost name lost (ap not e) in

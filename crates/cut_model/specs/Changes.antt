@@ -12,7 +12,7 @@ use Rattle.store_model.specs.Worlds.{World, Transaction, Opening, transaction, v
 use Rattle.store_model.specs.Causes.{has_page}
 use Rattle.store_model.specs.Images.{shown_in}
 use Rattle.cut_model.specs.States.{state_of}
-use Rattle.cut_model.specs.CutPages.{Copied, CutPage, no_page, with_copy, with_commit, with_born}
+use Rattle.cut_model.specs.CutPages.{Copied, CutPage, bare_page, with_copy, with_commit, with_born}
 use Rattle.cut_model.specs.Sound.{IsFitCopy}
 use Rattle.cut_model.specs.Frames.{copy_now}
 
@@ -28,27 +28,27 @@ IsPageAfter image moment born p after =
 -- a cut after a commit: the pages that were written, and the others as they were
 pub record IsCutAfter (w : World) (t : Transaction) (pages after : List CutPage) : Type 0 where
   pub all : length after ≡ length pages
-  pub others : (page : ℕ) → has_page t.pages_written page ≡ false → slice_index_or after page no_page ≡ slice_index_or pages page no_page
+  pub others : (page : ℕ) → has_page t.pages_written page ≡ false → slice_index_or after page bare_page ≡ slice_index_or pages page bare_page
   pub made : ℕ → ℕ
-  pub is_made : (page : ℕ) → has_page t.pages_written page ≡ true → IsMade t page (slice_index_or pages page no_page).born (made page)
+  pub is_made : (page : ℕ) → has_page t.pages_written page ≡ true → IsMade t page (slice_index_or pages page bare_page).born (made page)
   pub written : (page : ℕ) → page < length pages → has_page t.pages_written page ≡ true
-      → IsPageAfter (shown_in w (view w t) page) (w.commits + 1) (made page) (slice_index_or pages page no_page) (slice_index_or after page no_page)
+      → IsPageAfter (shown_in w (view w t) page) (w.commits + 1) (made page) (slice_index_or pages page bare_page) (slice_index_or after page bare_page)
 
 -- each page that a commit wrote has an after-image
 abbrev pub GivesImages : World → Call → List CutPage → Type 0
 GivesImages w (Commit t) after =
-    (page : ℕ) → page < length after → has_page (transaction w t).pages_written page ≡ true → IsTrue (is_some (slice_index_or after page no_page).after)
+    (page : ℕ) → page < length after → has_page (transaction w t).pages_written page ≡ true → IsTrue (is_some (slice_index_or after page bare_page).after)
 GivesImages w _ after = Unit {0}
 
 -- a copy of a page is added
 abbrev pub Adds : ℕ → Copied → List CutPage → List CutPage → Type 0
-Adds page c pages after = (page < length pages) × (after ≡ slice_set pages page (with_copy c (slice_index_or pages page no_page)))
+Adds page c pages after = (page < length pages) × (after ≡ slice_set pages page (with_copy c (slice_index_or pages page bare_page)))
 
 -- what a call that is answered does
 abbrev pub ChangesBy : World → Opening → Call → List CutPage → List CutPage → Type 0
 ChangesBy w opening (Commit t) pages after = IsCutAfter w (transaction w t) pages after
 ChangesBy w opening (Copy page) pages after = Adds page (copy_now w page) pages after
-ChangesBy w opening (HandIn page number seen) pages after = (c : Copied) × IsFitCopy (state_of w) opening page (slice_index_or pages page no_page) c × Adds page c pages after
+ChangesBy w opening (HandIn page number seen) pages after = (c : Copied) × IsFitCopy (state_of w) opening page (slice_index_or pages page bare_page) c × Adds page c pages after
 ChangesBy w opening _ pages after = after ≡ pages
 
 abbrev pub Changes : World → Opening → Call → Reply → List CutPage → List CutPage → Type 0

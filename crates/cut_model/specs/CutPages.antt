@@ -24,8 +24,9 @@ pub record CutPage : Type 0 where
   pub after : Option Changed
   pub born : ℕ
 
-abbrev pub no_page : CutPage
-no_page = record { copy = None; after = None; born = 0 }
+-- a page of which the cut has nothing yet
+abbrev pub bare_page : CutPage
+bare_page = record { copy = None; after = None; born = 0 }
 
 -- the committed image of a copy
 abbrev pub committed_image : Copied → List SlotParts
@@ -69,7 +70,7 @@ abbrev pub objects_on : ℕ → CutPage → List Object
 objects_on page p = flat (objects_of page) (images_of p)
 
 abbrev pub cut_graph : List CutPage → List Object
-cut_graph pages = flat (λ page. objects_on page (slice_index_or pages page no_page)) (below (length pages))
+cut_graph pages = flat (λ page. objects_on page (slice_index_or pages page bare_page)) (below (length pages))
 
 -- the marks: what is reached in the graph of the cut
 abbrev pub IsMarked : List NameParts → List CutPage → NameParts → Type 0

@@ -5,23 +5,23 @@ use Rattle.object_graph.specs.SlotParts.{SlotParts}
 use Rattle.object_graph.specs.Slots.{has_slot}
 use Rattle.object_graph.specs.declared.names.Object.{Object}
 use Rattle.object_graph.specs.Graphs.{has_object}
-use Rattle.store_model.specs.Worlds.{World, Opening, starts, is_freed}
+use Rattle.store_model.specs.Worlds.{World, Opening, is_freed}
 use Rattle.store_model.specs.Causes.{has_page}
 use Rattle.store_model.specs.Worlds.{IsOutOfReach}
 use Rattle.store_model.specs.Members.{In}
 use Rattle.store_model.specs.Worlds.{is_old, IsLost}
 use Rattle.cut_model.specs.Images.{no_slot, objects_of}
-use Rattle.cut_model.specs.CutPages.{CutPage, no_page, settled_image, IsMarked}
+use Rattle.cut_model.specs.CutPages.{CutPage, bare_page, settled_image, IsMarked}
 
 -- a name in use in the settled image of its page, neither born nor marked
 pub record IsDoomed (roots : List NameParts) (pages : List CutPage) (name : NameParts) : Type 0 where
   pub image : List SlotParts
   pub object : Object
   pub within : name.page < length pages
-  pub settled : settled_image (slice_index_or pages name.page no_page) ≡ Some image
+  pub settled : settled_image (slice_index_or pages name.page bare_page) ≡ Some image
   pub shown : In object (objects_of name.page image)
   pub named : object.name ≡ name
-  pub unborn : has_slot (slice_index_or pages name.page no_page).born name.slot ≡ false
+  pub unborn : has_slot (slice_index_or pages name.page bare_page).born name.slot ≡ false
   pub unmarked : ¬ IsMarked roots pages name
 
 -- an unfreed name that was there as the cut opened and is out of reach
@@ -32,9 +32,9 @@ pub record IsSafeToFree (w : World) (opening : Opening) (name : NameParts) : Typ
   pub out : IsOutOfReach w name
 
 -- on the pages that aren't swept each doomed name is safe to free, and what was lost and isn't freed is doomed there
-pub record KeepsDoomed (w : World) (opening : Opening) (pages : List CutPage) (swept : List ℕ) : Type 0 where
-  pub safe : (name : NameParts) → IsDoomed (starts w) pages name → has_page swept name.page ≡ false → IsSafeToFree w opening name
-  pub lost : (name : NameParts) → IsLost opening name → IsTrue (not (is_freed w name)) → (has_page swept name.page ≡ false) × IsDoomed (starts w) pages name
+pub record KeepsDoomed (w : World) (opening : Opening) (roots : List NameParts) (pages : List CutPage) (swept : List ℕ) : Type 0 where
+  pub safe : (name : NameParts) → IsDoomed roots pages name → has_page swept name.page ≡ false → IsSafeToFree w opening name
+  pub lost : (name : NameParts) → IsLost opening name → IsTrue (not (is_freed w name)) → (has_page swept name.page ≡ false) × IsDoomed roots pages name
 
 -- the doomed slots of a page
 abbrev pub AreDoomedOn : List NameParts → List CutPage → ℕ → ℕ → Type 0

@@ -12,7 +12,7 @@ use Rattle.store_model.specs.Lawful.{IsOrderly}
 use Rattle.store_model.specs.Worlds.{is_unfreed, is_old, IsLost}
 use Rattle.cut_model.specs.States.{State, state_of, KeepsOpening, generation_at, shown_by}
 use Rattle.cut_model.specs.Images.{objects_of}
-use Rattle.cut_model.specs.CutPages.{Copied, CutPage, no_page, committed_image, settled_image, images_of_copy, images_of}
+use Rattle.cut_model.specs.CutPages.{Copied, CutPage, bare_page, committed_image, settled_image, images_of_copy, images_of}
 
 -- an object in an image has the name of its place, and doesn't refer to what was lost, unless it was lost itself
 pub record IsSafeObject (opening : Opening) (o : Object) : Type 0 where
@@ -36,7 +36,7 @@ pub record IsSoundPage (s : State) (opening : Opening) (page : ℕ) (p : CutPage
 
 -- each page is
 abbrev pub IsSound : State → Opening → List CutPage → Type 0
-IsSound s opening pages = (page : ℕ) → page < length pages → IsSoundPage s opening page (slice_index_or pages page no_page)
+IsSound s opening pages = (page : ℕ) → page < length pages → IsSoundPage s opening page (slice_index_or pages page bare_page)
 
 -- a copy of a page that has none yet is fit
 pub record IsFitCopy (s : State) (opening : Opening) (page : ℕ) (p : CutPage) (c : Copied) : Type 0 where
@@ -54,4 +54,4 @@ pub record IsClosedBeside (w : World) (opening : Opening) (pages : List CutPage)
   pub keeps : KeepsOpening w opening
   pub all : length pages ≡ w.pages
   pub sound : IsSound (state_of w) opening pages
-  pub copied : (page : ℕ) → page < length pages → IsTrue (is_some (slice_index_or pages page no_page).copy)
+  pub copied : (page : ℕ) → page < length pages → IsTrue (is_some (slice_index_or pages page bare_page).copy)

@@ -8,23 +8,22 @@ ghost use Rattle.store_model.specs.Worlds.{World, Note, nothing, Event, fresh_wo
 ghost use Rattle.store_model.specs.Replies.{Allows, AllowsReply};
 ghost use Rattle.store_model.specs.Steps.{after_reply, next};
 ghost use Rattle.store_model.specs.Histories.{after, IsLegal};
-ghost use Rattle.cut_model.specs.CutPages.{CutPage};
-ghost use Rattle.cut_model.specs.Standing.{IsStanding, Turns, TurnsThrough};
+ghost use Rattle.cut_model.specs.Standing.{CutBeside, nothing_copied, IsStanding, Turns, TurnsThrough};
 ghost use Rattle.cut_model.specs.Courses.{IsUndisturbing, RunsThrough};
 
-/// The world of a fresh store stands, with no pages of a cut.
+/// The world of a fresh store stands, with no cut beside it.
 pub fn a_fresh_store_stands()
-    ensures { (pages : ℕ) → 0 < pages → IsStanding (fresh_world pages) [] }
+    ensures { (pages : ℕ) → 0 < pages → IsStanding (fresh_world pages) (nothing_copied 0) }
 {}
 
-/// Each allowed event leaves what stands, with what the call does to the pages of the cut.
+/// Each allowed event leaves what stands, with what the call does to the cut.
 pub fn each_event_leaves_what_stands()
-    ensures { (w : World) (e : Event) (pages after : List CutPage) → IsStanding w pages → Allows w e → Turns w e.entry.call e.entry.reply pages after → IsStanding (next w e) after }
+    ensures { (w : World) (e : Event) (b after : CutBeside) → IsStanding w b → Allows w e → Turns w e.entry.call e.entry.reply b after → IsStanding (next w e) after }
 {}
 
 /// So does each legal history.
 pub fn histories_leave_what_stands()
-    ensures { (w : World) (pages : List CutPage) (events : List Event) (last : List CutPage) → IsStanding w pages → IsLegal w events → TurnsThrough w pages events last
+    ensures { (w : World) (b : CutBeside) (events : List Event) (last : CutBeside) → IsStanding w b → IsLegal w events → TurnsThrough w b events last
         → IsStanding (after w events) last }
 {}
 

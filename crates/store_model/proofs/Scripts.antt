@@ -4,8 +4,8 @@ use Rattle.object_graph.specs.declared.calls.Call.TheVariants.{Sweep}
 use Rattle.object_graph.specs.declared.calls.Reply.TheVariants.{Committed, Freed}
 use Rattle.object_graph.specs.declared.calls.Refusal.TheVariants.{Stranger, BadField, Busy}
 use Rattle.store_model.specs.Worlds.{fresh_world}
-use Rattle.store_model.specs.Histories.{after, IsLegal}
-use Rattle.store_model.specs.Examples.{roomy_world, root, name_of, said, born_in_a_cut, a_chain_is_unlinked, a_cut_is_marked, busy_with_the_wrong_holder, a_born_object_is_freed, a_lost_object_is_left, a_commit_is_counted_twice, a_refusal_out_of_order, a_number_is_put, one_at_a_time, a_lock_conflict_is_busy, a_page_fills, refusals_come_in_order, a_chain_unlinked_is_collected, a_moved_pointer_is_seen, a_dirty_copy_outlives_an_abort, what_is_born_in_a_cut_outlives_it, a_locked_page_is_swept, phases_come_in_order, a_commit_in_doubt_may_be_lost, a_commit_in_doubt_may_be_done}
+use Rattle.store_model.specs.Histories.{after, IsLegal, Follows, collection}
+use Rattle.store_model.specs.Examples.{roomy_world, root, name_of, said, born_in_a_cut, a_chain_is_unlinked, a_cut_is_marked, busy_with_the_wrong_holder, a_born_object_is_freed, a_lost_object_is_left, a_commit_is_counted_twice, a_refusal_out_of_order, a_number_is_put, one_at_a_time, a_lock_conflict_is_busy, a_page_fills, refusals_come_in_order, a_chain_unlinked_is_collected, a_moved_pointer_is_seen, a_dirty_copy_outlives_an_abort, what_is_born_in_a_cut_outlives_it, a_locked_page_is_swept, phases_come_in_order, a_commit_in_doubt_may_be_lost, a_commit_in_doubt_may_be_done, nothing_is_collected, a_collection_stops_at_a_refusal, a_sweep_in_doubt_may_be_done}
 use Rattle.store_model.proofs.Parts.{IsLegal-parts}
 use Rattle.store_model.proofs.Rounds.{out_of_reach}
 use Rattle.store_model.proofs.Tests.{legal_by_test}
@@ -48,6 +48,18 @@ a_commit_in_doubt_may_be_lost_legal = legal_by_test (fresh_world 2) a_commit_in_
 
 pub a_commit_in_doubt_may_be_done_legal : IsLegal (fresh_world 2) a_commit_in_doubt_may_be_done
 a_commit_in_doubt_may_be_done_legal = legal_by_test (fresh_world 2) a_commit_in_doubt_may_be_done refl
+
+pub nothing_is_collected_legal : IsLegal (fresh_world 2) nothing_is_collected
+nothing_is_collected_legal = legal_by_test (fresh_world 2) nothing_is_collected refl
+
+pub nothing_is_collected_follows : Follows (collection 2 2 ∷ []) nothing_is_collected
+nothing_is_collected_follows = ([], (refl, (refl, (refl, (refl, (refl, (refl, (refl, (refl, refl)))))))), refl)
+
+pub a_collection_stops_at_a_refusal_legal : IsLegal (fresh_world 2) a_collection_stops_at_a_refusal
+a_collection_stops_at_a_refusal_legal = legal_by_test (fresh_world 2) a_collection_stops_at_a_refusal refl
+
+pub a_sweep_in_doubt_may_be_done_legal : IsLegal (fresh_world 2) a_sweep_in_doubt_may_be_done
+a_sweep_in_doubt_may_be_done_legal = legal_by_test (fresh_world 2) a_sweep_in_doubt_may_be_done refl
 
 -- ---- no histories
 

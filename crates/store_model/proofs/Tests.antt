@@ -1,5 +1,5 @@
 -- A test of histories that computes, and is right where it says yes.
-use Rattle.std.proofs.Common.{◌≡◌, ℕ, zero, suc, ◌+◌, Bool, true, false, ◌&&◌, ◌||◌, ◌==◌, List, [], ◌∷◌, Option, Some, None, refl, sym, ap, ◌∙◌, inl, inr}
+use Rattle.std.proofs.Common.{◌≡◌, ℕ, zero, suc, ◌+◌, Bool, true, false, ◌&&◌, ◌||◌, ◌==◌, List, [], ◌∷◌, Option, Some, None, refl, sym, ap, ◌∙◌, inl, inr, ◌^◌}
 use Rattle.std.specs.List.{slice_get}
 use Rattle.std.specs.Option.{is_none, unwrap_or, MatchOption}
 use Rattle.std.proofs.lemmas.Bool.{and_parts, or_cases, eqb-true}
@@ -15,7 +15,7 @@ use Rattle.object_graph.specs.declared.calls.Refusal.{Refusal}
 use Rattle.object_graph.specs.declared.calls.Refusal.TheVariants.{NotOpen, Stranger, BadField, NoPage, Busy, TooWide, KnowsTooMany, PageFull, AlreadyOpen, TooMany, CutThere, NoCut, WrongPhase, AlreadyCopied, Uncopied, OtherCut, AlreadySwept, Unswept, Spent, DiskFault, Broken, NotAStore, Damaged, Memory}
 use Rattle.store_model.specs.Worlds.{World, OpenedCut, Doubt, no_doubt, commit_in_doubt, sweep_in_doubt, Note, Event}
 use Rattle.store_model.specs.Causes.{first_refusal, field_seen, number_seen, new_name}
-use Rattle.store_model.specs.Replies.{AllowsReply, Answers, AnswersSweep, AnswersReopen, AnswersNew, MayFree, MayReopen, is_free, found_in, has_note}
+use Rattle.store_model.specs.Replies.{AllowsReply, Answers, AnswersSweep, AnswersReopen, AnswersNew, MayFree, MayReopen, is_free, found_in, has_note, MayBeFound, names_in}
 use Rattle.store_model.specs.Steps.{next}
 use Rattle.store_model.specs.Histories.{IsLegal}
 use Rattle.store_model.proofs.Paths.{name_eq_same}
@@ -165,9 +165,38 @@ none_is : (names : List NameParts) → has_none names ≡ true → names ≡ []
 none_is [] h = refl
 none_is (n ∷ ns) h = cc
 
+-- the slots in which these names stand
+abbrev pub slots_under : List NameParts → ℕ
+slots_under [] = 0
+slots_under (n ∷ ns) = 2 ^ n.slot + slots_under ns
+
+abbrev pub same_names : List NameParts → List NameParts → Bool
+same_names [] [] = true
+same_names (a ∷ ms) (b ∷ ns) = name_eq a b && same_names ms ns
+same_names [] (b ∷ ns) = false
+same_names (a ∷ ms) [] = false
+
+names_are : (ms ns : List NameParts) → same_names ms ns ≡ true → ms ≡ ns
+names_are [] [] h = refl
+names_are (a ∷ ms) (b ∷ ns) h =
+    let s = and_parts (name_eq a b) (same_names ms ns) h in
+    ap (λ (n : NameParts). n ∷ ms) (name_eq_same a b s.0) ∙ ap (λ (ks : List NameParts). b ∷ ks) (names_are ms ns s.1)
+names_are [] (b ∷ ns) h = cc
+names_are (a ∷ ms) [] h = cc
+
+-- a sweep of the page may have freed these names
+abbrev pub may_have_freed : World → ℕ → List NameParts → Bool
+may_have_freed w page names = may_free_now w.cut w page (slots_under names) && same_names names (names_in w page (slots_under names))
+
+have_freed : (w : World) (page : ℕ) (names : List NameParts) → may_have_freed w page names ≡ true → MayBeFound w page names
+have_freed w page names h =
+    let a = and_parts (may_free_now w.cut w page (slots_under names)) (same_names names (names_in w page (slots_under names))) h in
+    inr (slots_under names, may_free_now_is w.cut w page (slots_under names) a.0, names_are names (names_in w page (slots_under names)) a.1)
+
 abbrev pub may_reopen : World → Doubt → ℕ → List NameParts → Bool
+may_reopen w no_doubt commits names = (commits == w.commits) && has_none names
 may_reopen w (commit_in_doubt t) commits names = ((commits == w.commits) || (commits == w.commits + 1)) && has_none names
-may_reopen w _ commits names = (commits == w.commits) && has_none names
+may_reopen w (sweep_in_doubt page) commits names = (commits == w.commits) && (has_none names || may_have_freed w page names)
 
 may_reopen_is : (w : World) (doubt : Doubt) (commits : ℕ) (names : List NameParts) → may_reopen w doubt commits names ≡ true → MayReopen w doubt commits names
 may_reopen_is w no_doubt commits names h =
@@ -181,7 +210,13 @@ may_reopen_is w (commit_in_doubt t) commits names h =
       none_is names a.1,
     )
 may_reopen_is w (sweep_in_doubt page) commits names h =
-    let a = and_parts (commits == w.commits) (has_none names) h in (eqb-true commits w.commits a.0, inl (none_is names a.1))
+    let a = and_parts (commits == w.commits) (has_none names || may_have_freed w page names) h in (
+      eqb-true commits w.commits a.0,
+      elim (or_cases (has_none names) (may_have_freed w page names) a.1) [
+        | inl e ↦ inl (none_is names e)
+        | inr e ↦ have_freed w page names e
+      ],
+    )
 
 abbrev pub answers_reopen : World → List NameParts → Reply → Bool
 answers_reopen w names (Reopened commits) = may_reopen w w.doubt commits names

@@ -131,6 +131,16 @@ phases_come_in_order =
     ∷ noted (marks (Some 1)) (Mark 1) Done ∷ refused EndCut (Unswept 0) ∷ said (Sweep 0) (Freed 0) ∷ refused (Sweep 0) (AlreadySwept 0) ∷ said DropCut Done
     ∷ refused DropCut NoCut ∷ []
 
+-- a line that collects, in a store with nothing to collect
+abbrev pub nothing_is_collected : List Event
+nothing_is_collected =
+    said OpenCut (Cut 1) ∷ said (Copy 0) Done ∷ said (Copy 1) Done ∷ noted images Close Done ∷ noted (marks (Some 1)) (Mark 2) Done ∷ said (Sweep 0) (Freed 0)
+    ∷ said (Sweep 1) (Freed 0) ∷ said EndCut Done ∷ []
+
+-- the same line while a cut is there: it stops after its first call
+abbrev pub a_collection_stops_at_a_refusal : List Event
+a_collection_stops_at_a_refusal = said OpenCut (Cut 1) ∷ refused OpenCut (CutThere 1) ∷ said DropCut Done ∷ []
+
 -- ---- disk faults
 
 -- a commit meets a disk fault
@@ -142,6 +152,12 @@ a_commit_in_doubt_may_be_lost = a_commit_in_doubt ++ noted (found []) Reopen (Re
 
 abbrev pub a_commit_in_doubt_may_be_done : List Event
 a_commit_in_doubt_may_be_done = a_commit_in_doubt ++ noted (found []) Reopen (Reopened 1) ∷ said (Begin 2) Done ∷ said (Number 2 root) (Num 5) ∷ []
+
+-- a sweep that met a disk fault is found done: the names that it freed stand in the order in which they were made
+abbrev pub a_sweep_in_doubt_may_be_done : List Event
+a_sweep_in_doubt_may_be_done =
+    a_chain_is_unlinked ++ (a_cut_is_marked ++ said (Sweep 0) (Freed 0) ∷ noted (faults 1) (Sweep 1) (Refused DiskFault) ∷ refused EndCut (Broken 1)
+    ∷ noted (found (name_of 1 0 1 ∷ name_of 1 1 1 ∷ name_of 1 2 1 ∷ [])) Reopen (Reopened 2) ∷ said (Begin 3) Done ∷ said (New 3 1) (Made (name_of 1 0 2)) ∷ [])
 
 -- ---- no histories
 

@@ -1,7 +1,8 @@
 //! Worked scripts, as histories that are legal, and spoiled ones that are not.
-ghost use Rattle.std.specs.Prelude.{◌≡◌, codes};
+ghost use Rattle.std.specs.Prelude.{◌≡◌, [], ◌∷◌, codes};
+ghost use Rattle.object_graph.specs.declared.calls.Call.TheVariants.{OpenCut, DropCut};
 ghost use Rattle.store_model.specs.Worlds.{fresh_world};
-ghost use Rattle.store_model.specs.Histories.{IsLegal};
+ghost use Rattle.store_model.specs.Histories.{IsLegal, IsRun, Follows, HavePresentMarks, collection};
 ghost use Rattle.store_model.specs.Texts.{history_text};
 ghost use Rattle.store_model.specs.Examples as worked;
 
@@ -81,6 +82,28 @@ pub fn a_commit_in_doubt_may_be_lost()
 pub fn a_commit_in_doubt_may_be_done()
     ensures legal { IsLegal (fresh_world 2) worked.a_commit_in_doubt_may_be_done }
     ensures text { history_text worked.a_commit_in_doubt_may_be_done ≡ codes "ok\nok\ndisk fault\nbroken 1\nopen 1\nok\nnum 5\n" }
+{}
+
+/// A line that collects makes the calls of a collection.
+pub fn nothing_is_collected()
+    ensures legal { IsLegal (fresh_world 2) worked.nothing_is_collected }
+    ensures follows { Follows (collection 2 2 ∷ []) worked.nothing_is_collected }
+    ensures marks { HavePresentMarks (fresh_world 2) worked.nothing_is_collected }
+    ensures lane { IsRun worked.nothing_is_collected }
+    ensures text { history_text worked.nothing_is_collected ≡ codes "cut 1\nok\nok\nok\nok\nfreed none\nfreed none\nok\n" }
+{}
+
+/// Such a line stops after its first call that is refused.
+pub fn a_collection_stops_at_a_refusal()
+    ensures legal { IsLegal (fresh_world 2) worked.a_collection_stops_at_a_refusal }
+    ensures follows { Follows ((OpenCut ∷ []) ∷ collection 2 1 ∷ (DropCut ∷ []) ∷ []) worked.a_collection_stops_at_a_refusal }
+    ensures text { history_text worked.a_collection_stops_at_a_refusal ≡ codes "cut 1\ncut there 1\nok\n" }
+{}
+
+/// A sweep that met a disk fault may be done: its slots are used again.
+pub fn a_sweep_in_doubt_may_be_done()
+    ensures legal { IsLegal (fresh_world 2) worked.a_sweep_in_doubt_may_be_done }
+    ensures text { history_text worked.a_sweep_in_doubt_may_be_done ≡ codes "ok\nnew 1.0.1\nnew 1.1.1\nnew 1.2.1\nok\nok\nok\ncommit 1\nok\nok\ncommit 2\ncut 1\nok\nok\nok\nok\nfreed none\ndisk fault\nbroken 1\nopen 2\nok\nnew 1.0.2\n" }
 {}
 
 /// A busy answer doesn't name another than the holder.

@@ -11,10 +11,11 @@ mod steps;
 mod texts;
 
 pub use examples::{
-    a_born_object_is_not_freed, a_chain_unlinked_is_collected, a_commit_in_doubt_may_be_done,
-    a_commit_in_doubt_may_be_lost, a_commit_is_not_counted_twice, a_dirty_copy_outlives_an_abort,
-    a_lock_conflict_is_busy, a_locked_page_is_swept, a_lost_object_is_not_left,
-    a_moved_pointer_is_seen, a_number_is_put, a_page_fills, busy_names_the_holder, one_at_a_time,
+    a_born_object_is_not_freed, a_chain_unlinked_is_collected, a_collection_stops_at_a_refusal,
+    a_commit_in_doubt_may_be_done, a_commit_in_doubt_may_be_lost, a_commit_is_not_counted_twice,
+    a_dirty_copy_outlives_an_abort, a_lock_conflict_is_busy, a_locked_page_is_swept,
+    a_lost_object_is_not_left, a_moved_pointer_is_seen, a_number_is_put, a_page_fills,
+    a_sweep_in_doubt_may_be_done, busy_names_the_holder, nothing_is_collected, one_at_a_time,
     phases_come_in_order, refusals_come_in_order, refusals_keep_their_order,
     what_is_born_in_a_cut_outlives_it,
 };
