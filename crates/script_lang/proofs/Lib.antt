@@ -6,3 +6,4 @@ pub mod Spellings
 pub mod Table
 pub mod OneMeaning
 pub mod Freed
+pub mod LinesOf

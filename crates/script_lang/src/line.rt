@@ -10,6 +10,9 @@ use crate::meaning::{Kind, Meanings, meaning_of};
 use crate::words::split_at_byte;
 use object_graph::Call;
 
+// The most bytes of a line.
+const LINE_LIMIT: usize = 200;
+
 /// What a line of a script says (FORMATS.md, "Script lines").
 #[derive(Clone, Copy, Debug, PartialEq, Eq)]
 pub enum Line {
@@ -34,7 +37,7 @@ pub fn read_line(bytes: &[u8]) -> Result<Line, BadLine>
     ensures only { (line : Line) → Says bytes.now line → result ≡ Ok line }
     ensures column { IfErr result (λ e. e.column ≡ 1) }
 {
-    if bytes.len() > 200 {
+    if bytes.len() > LINE_LIMIT {
         return Err(BadLine { column: 1 });
     }
     if bytes.is_empty() || bytes[0] == b'#' {
