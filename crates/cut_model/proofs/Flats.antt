@@ -5,6 +5,7 @@ use Rattle.std.proofs.lemmas.List.{get_or_append_left, get_or-append_right, get_
 use Rattle.object_graph.specs.SlotParts.{SlotParts}
 use Rattle.object_graph.specs.declared.names.Object.{Object}
 use Rattle.object_graph.specs.Slots.{below}
+use Rattle.store_model.proofs.Lists.{in_below}
 use Rattle.store_model.proofs.Members.{In, in_append, append_left, append_right}
 use Rattle.store_model.proofs.Cuts.{below_bound}
 use Rattle.cut_model.specs.Images.{flat, no_slot, object_in, objects_in, objects_of}
@@ -26,17 +27,6 @@ flat_in f (z ∷ zs) x y m n = elim m [
 pub length_below : (n : ℕ) → length (below n) ≡ n
 length_below zero = refl
 length_below (suc n) = let e = length_below n in omega (arith, length-append (below n) (n ∷ []), e)
-
-pub in_below : (n j : ℕ) → j < n → In j (below n)
-in_below zero j h = absurd (omega arith)
-in_below (suc n) j h = in_below_step n j (λ k. in_below n j k) h
-  where
-    by_case : (n j : ℕ) → (j < n → In j (below n)) → (j < n) ⊎ (j ≡ n) → In j (below n ++ n ∷ [])
-    by_case n j f (inl a) = append_left (below n) (n ∷ []) j (f a)
-    by_case n j f (inr e) = append_right (below n) (n ∷ []) j (inl e)
-
-    in_below_step : (n j : ℕ) → (j < n → In j (below n)) → j < suc n → In j (below n ++ n ∷ [])
-    in_below_step n j f h = by_case n j f (elim (cases_lt j n) [ inl a ↦ inl a | inr b ↦ let e : j ≡ n = omega arith in inr e ])
 
 pub get_below : (n j : ℕ) → j < n → get_or (below n) j 0 ≡ j
 get_below zero j h = absurd (omega arith)

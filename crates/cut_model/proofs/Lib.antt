@@ -9,7 +9,7 @@ pub mod Events
 pub mod Openings
 pub mod Sweeps
 pub mod Phases
-pub mod Headline
+pub mod Fresh
 pub mod Places
 pub mod Turning
 pub mod FrameSteps

@@ -1,5 +1,5 @@
 -- Each event leaves what stands.
-use Rattle.std.proofs.Common.{◌≡◌, ◌≢◌, ℕ, ◌+◌, ◌<◌, Bool, true, false, not, cond, List, [], ◌∷◌, length, get_or, Option, Some, None, refl, sym, subst, ap, ◌∙◌, inl, inr, arith}
+use Rattle.std.proofs.Common.{◌≡◌, ◌≢◌, ℕ, ◌+◌, ◌<◌, Bool, true, false, not, List, [], ◌∷◌, length, get_or, Option, Some, None, refl, sym, subst, ap, ◌∙◌, inl, inr, arith}
 use Rattle.std.specs.List.{find, AllByRecursion}
 use Rattle.std.specs.Option.{is_some, unwrap_or, option_map, MatchOption}
 use Rattle.std.proofs.lemmas.Bool.{cases_Bool, cases_eq, not-false}
@@ -20,7 +20,6 @@ use Rattle.store_model.specs.Replies.{AllowsReply, Answers, MayFree}
 use Rattle.store_model.specs.Steps.{with_page, with_cut, with_new, opened, opening_of, swept, has_swept, after_refusal, after_answer, after_reply}
 use Rattle.store_model.specs.Worlds.{IsOutOfReach}
 use Rattle.store_model.proofs.Members.{In}
-use Rattle.cut_model.proofs.Flats.{in_below}
 use Rattle.store_model.proofs.Allowed.{when_none, with_page_cases}
 use Rattle.store_model.specs.Lawful.{IsOrderly}
 use Rattle.cut_model.specs.States.{State, state_of, state_after, KeepsOpening}
@@ -39,7 +38,7 @@ use Rattle.store_model.proofs.Opened.{nones, commit_is_open}
 use Rattle.store_model.proofs.Keeps.{lost_stays, freed_grows}
 use Rattle.cut_model.proofs.Openings.{StateFollows, names_stay, opening_is_kept, empty_cut_is_sound, get-replicate_same}
 use Rattle.cut_model.proofs.Sweeps.{doomed_stays, sweep_keeps_doomed, doomed_may_be_freed}
-use Rattle.store_model.proofs.Lists.{with_page_has, with_page_keeps}
+use Rattle.store_model.proofs.Lists.{with_page_has, with_page_keeps, find_none_each, in_below}
 use Rattle.store_model.proofs.Lawfulness.{event_is_lawful}
 
 -- ---- where the state stays, or a commit changes it
@@ -243,15 +242,6 @@ hand_stands w page number seen note pages after lawful next may turns stands = b
         (right_phase cut Copying (cut_none w (λ cut. wrong_phase cut Copying ∷ other_cut cut number ∷ already_copied cut page ∷ []) cut h).0) t s
 
 -- ---- the closing
-
-pub find_none_each : {A : Type 0} (p : A → Bool) (xs : List A) (x : A) → find p xs ≡ None → In x xs → p x ≡ false
-find_none_each p [] x e m = absurd m
-find_none_each p (y ∷ ys) x e m = by_test p y ys x (find_none_each p ys x) m (p y) refl e
-  where
-    by_test : {A : Type 0} (p : A → Bool) (y : A) (ys : List A) (x : A) → (find p ys ≡ None → In x ys → p x ≡ false) → In x (y ∷ ys) → (b : Bool) → p y ≡ b
-        → cond b (Some y) (find p ys) ≡ None → p x ≡ false
-    by_test p y ys x h m true q e = cc
-    by_test p y ys x h m false q e = elim m [ inl s ↦ subst (λ k. p k ≡ false) (sym s) q | inr r ↦ h e r ]
 
 none_uncopied : (o : Option ℕ) → option_map (λ page. Uncopied page) o ≡ None → o ≡ None
 none_uncopied None h = refl

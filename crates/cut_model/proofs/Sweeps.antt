@@ -1,5 +1,5 @@
 -- What sweeps free, and what they leave.
-use Rattle.std.proofs.Common.{◌≡◌, ℕ, ◌<◌, ◌==◌, Bool, true, false, not, ◌&&◌, ◌||◌, cond, List, [], ◌∷◌, ◌++◌, map, length, refl, sym, subst, ap, ◌∙◌, inl, inr}
+use Rattle.std.proofs.Common.{◌≡◌, ℕ, ◌==◌, Bool, true, false, not, ◌&&◌, ◌||◌, cond, List, [], ◌∷◌, ◌++◌, map, length, refl, sym, subst, ap, ◌∙◌, inl, inr}
 use Rattle.std.specs.List.{list_all, filter}
 use Rattle.std.proofs.lemmas.Bool.{and_from, cases_Bool, eqb-true, eq-eqb, not-true}
 use Rattle.object_graph.specs.NameParts.{NameParts}
@@ -7,14 +7,14 @@ use Rattle.object_graph.specs.Slots.{has_slot}
 use Rattle.object_graph.specs.declared.names.Object.{Object}
 use Rattle.object_graph.specs.Graphs.{has_name, objects_at}
 use Rattle.object_graph.specs.Slots.{below, slots_in}
-use Rattle.store_model.specs.Worlds.{World, Opening, OpenedCut, is_freed, unfreed, IsLost}
+use Rattle.store_model.specs.Worlds.{World, Opening, OpenedCut, is_freed, unfreed}
 use Rattle.store_model.specs.Causes.{has_page}
 use Rattle.store_model.specs.Replies.{names_in, IsGarbage, MayFree}
 use Rattle.store_model.specs.Steps.{with_page, swept}
 use Rattle.store_model.proofs.Members.{In, append_left, append_right, in_append, in_filter, filter_in, in_map, map_in, each_from}
 use Rattle.store_model.proofs.Paths.{has_name_in, in_has_name, has_object_in}
 use Rattle.store_model.specs.Lawful.{IsOrderly}
-use Rattle.store_model.specs.Worlds.{is_unfreed, IsLost}
+use Rattle.store_model.specs.Worlds.{is_unfreed}
 use Rattle.cut_model.specs.States.{unfreed_at}
 use Rattle.cut_model.specs.CutPages.{CutPage}
 use Rattle.cut_model.specs.Doomed.{IsSafeToFree, KeepsDoomed, AreDoomedOn}
@@ -188,15 +188,3 @@ sweep_keeps_doomed w cut roots pages page slots lawful may keeps = record {
           | inl t ↦ absurd (f (sym (eqb-true page other t)))
           | inr e ↦ subst (λ b. (b || has_page pages other) ≡ false) (sym e) h
         ]
-
--- where every page is swept all that was lost is freed
-pub lost_is_freed : (w : World) (opening : Opening) (roots : List NameParts) (pages : List CutPage) (swept : List ℕ) (name : NameParts) → KeepsDoomed w opening roots pages swept
-    → ((page : ℕ) → page < length pages → has_page swept page ≡ true) → IsLost opening name → is_freed w name ≡ true
-lost_is_freed w opening roots pages swept name keeps all lost = elim (cases_Bool (is_freed w name)) [
-  | inl e ↦ e
-  | inr e ↦
-      let d = keeps.lost name lost (ap not e) in
-      let a = all name.page d.1.within in
-      let b = d.0 in
-      cc
-]

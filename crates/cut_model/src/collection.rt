@@ -4,10 +4,10 @@ ghost use Rattle.object_graph.specs.NameParts.{NameParts};
 ghost use Rattle.object_graph.specs.SlotParts.{SlotParts};
 ghost use Rattle.object_graph.specs.declared.names.Object.{Object};
 ghost use Rattle.object_graph.specs.Slots.{has_slot};
-ghost use Rattle.object_graph.specs.declared.calls.Call.TheVariants.{Sweep, EndCut};
+ghost use Rattle.object_graph.specs.declared.calls.Call.TheVariants.{Sweep};
 ghost use Rattle.object_graph.specs.declared.calls.Reply.TheVariants.{Freed};
 ghost use Rattle.store_model.specs.Members.{In};
-ghost use Rattle.store_model.specs.Worlds.{World, Opening, OpenedCut, Note, starts, is_freed, IsReached, IsLost};
+ghost use Rattle.store_model.specs.Worlds.{World, Opening, OpenedCut, Note, starts, IsReached, IsLost};
 ghost use Rattle.store_model.specs.Causes.{first_refusal};
 ghost use Rattle.store_model.specs.Replies.{AllowsReply, MayFree};
 ghost use Rattle.store_model.specs.Steps.{swept, with_page};
@@ -58,10 +58,4 @@ pub fn doomed_slots_may_be_freed()
 pub fn a_sweep_leaves_the_rest_doomed()
     ensures { (w : World) (cut : OpenedCut) (roots : List NameParts) (pages : List CutPage) (page slots : ℕ) → IsOrderly (swept w page slots) → MayFree w cut.opening page slots
         → KeepsDoomed w cut.opening roots pages cut.swept → KeepsDoomed (swept w page slots) cut.opening roots pages (with_page page cut.swept) }
-{}
-
-/// Where a cut may end, all that was out of reach as it opened is freed.
-pub fn an_ended_cut_has_freed_what_was_lost()
-    ensures { (w : World) (cut : OpenedCut) (note : Note) (b : CutBeside) (name : NameParts) → IsStanding w b → w.cut ≡ Some cut → first_refusal w EndCut note ≡ None
-        → IsLost cut.opening name → IsTrue (is_freed w name) }
 {}

@@ -12,9 +12,8 @@ mod standing;
 
 pub use collection::{
     a_closed_cut_is_safe_and_complete, a_sweep_leaves_the_rest_doomed,
-    an_ended_cut_has_freed_what_was_lost, doomed_slots_are_those_of_doomed_names,
-    doomed_slots_may_be_freed, one_name_stands_at_each_place, what_is_reached_is_marked,
-    what_was_lost_is_unmarked,
+    doomed_slots_are_those_of_doomed_names, doomed_slots_may_be_freed,
+    one_name_stands_at_each_place, what_is_reached_is_marked, what_was_lost_is_unmarked,
 };
 pub use copies::{
     a_commit_keeps_the_cut_sound, a_cut_opens_sound, a_fit_copy_keeps_the_cut_sound,

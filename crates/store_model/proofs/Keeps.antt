@@ -69,7 +69,7 @@ follows w call note reply lawful may = follows_answer w call note reply lawful m
 abbrev pub Grows : List NameParts → List NameParts → Type 0
 Grows freed after = (more : List NameParts) × (after ≡ more ++ freed)
 
-grows_answer : (w : World) (call : Call) (note : Note) (reply : Reply) → Grows w.freed (after_answer w call note reply).freed
+pub grows_answer : (w : World) (call : Call) (note : Note) (reply : Reply) → Grows w.freed (after_answer w call note reply).freed
 grows_answer w (New t page) note reply = ([], freed-with_new w t (new_name w t page))
 grows_answer w (Sweep page) note reply = (names_in w page (slots_freed reply), refl)
 grows_answer w Reopen note reply = (found_in note, refl)

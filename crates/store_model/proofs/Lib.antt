@@ -25,3 +25,4 @@ pub mod News
 pub mod Spelled
 pub mod CallTexts
 pub mod RefusalTexts
+pub mod ReplyTexts

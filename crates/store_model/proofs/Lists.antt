@@ -1,7 +1,8 @@
 -- Lists of pages, of names and of transactions.
+use Rattle.object_graph.specs.Slots.{below}
 use Rattle.std.proofs.Common.{◌≡◌, ◌≢◌, ℕ, zero, suc, ◌<◌, ◌≤◌, ◌==◌, Bool, true, false, ◌||◌, cond, List, [], ◌∷◌, map, length, Some, None, refl, sym, subst, ap, ◌∙◌, ◌⊎◌, inl, inr, arith}
 use Rattle.std.specs.List.{list_any, find, filter, slice_get, AllByRecursion}
-use Rattle.std.proofs.lemmas.Bool.{eqb-true, eq-eqb}
+use Rattle.std.proofs.lemmas.Bool.{eqb-true, eq-eqb, cases_lt}
 use Rattle.object_graph.specs.NameParts.{NameParts}
 use Rattle.object_graph.specs.Names.{name_eq}
 use Rattle.object_graph.specs.Graphs.{has_name}
@@ -9,7 +10,7 @@ use Rattle.store_model.specs.Worlds.{Transaction}
 use Rattle.store_model.specs.Causes.{has_page}
 use Rattle.store_model.specs.Steps.{with_page, with_name}
 use Rattle.store_model.specs.Lawful.{IsApart, AreApart}
-use Rattle.store_model.proofs.Members.{In, each_in, each_from, or_right}
+use Rattle.store_model.proofs.Members.{In, each_in, each_from, or_right, append_left, append_right}
 
 -- ---- elements
 
@@ -78,6 +79,22 @@ any_false_filter p (x ∷ xs) e = by_test p x xs (any_false_filter p xs) (p x) e
         → cond b (x ∷ filter p xs) (filter p xs) ≡ []
     by_test p x xs h true e = cc
     by_test p x xs h false e = h e
+
+pub find_none_each : {A : Type 0} (p : A → Bool) (xs : List A) (x : A) → find p xs ≡ None → In x xs → p x ≡ false
+find_none_each p [] x e m = absurd m
+find_none_each p (y ∷ ys) x e m = by_test p y ys x (find_none_each p ys x) m (p y) refl e
+  where
+    by_test : {A : Type 0} (p : A → Bool) (y : A) (ys : List A) (x : A) → (find p ys ≡ None → In x ys → p x ≡ false) → In x (y ∷ ys) → (b : Bool) → p y ≡ b
+        → cond b (Some y) (find p ys) ≡ None → p x ≡ false
+    by_test p y ys x h m true q e = cc
+    by_test p y ys x h m false q e = elim m [ inl s ↦ subst (λ k. p k ≡ false) (sym s) q | inr r ↦ h e r ]
+
+pub in_below : (n j : ℕ) → j < n → In j (below n)
+in_below zero j h = absurd (omega arith)
+in_below (suc n) j h = elim (cases_lt j n) [
+  | inl a ↦ append_left (below n) (n ∷ []) j (in_below n j a)
+  | inr b ↦ append_right (below n) (n ∷ []) j (inl (omega arith))
+]
 
 -- ---- pages and names
 

@@ -46,7 +46,7 @@ refusal_kind Memory = 25
 abbrev pub refusal_separators : List (List ℕ)
 refusal_separators = [] ∷ [] ∷ [] ∷ [] ∷ (32 ∷ []) ∷ [] ∷ [] ∷ (32 ∷ []) ∷ [] ∷ [] ∷ (32 ∷ []) ∷ [] ∷ [] ∷ [] ∷ [] ∷ (32 ∷ []) ∷ (32 ∷ []) ∷ (32 ∷ []) ∷ (32 ∷ []) ∷ (32 ∷ []) ∷ (32 ∷ []) ∷ [] ∷ (32 ∷ []) ∷ [] ∷ (32 ∷ []) ∷ [] ∷ []
 
-abbrev refusals_of : ℕ → List Refusal
+abbrev pub refusals_of : ℕ → List Refusal
 refusals_of n =
     NotOpen ∷ Stranger ∷ BadField ∷ NoPage ∷ Busy n ∷ TooWide ∷ KnowsTooMany ∷ PageFull n
     ∷ AlreadyOpen ∷ TooMany ∷ CutThere n ∷ NoCut ∷ WrongPhase Copying ∷ WrongPhase Closed ∷ WrongPhase Sweeping ∷ AlreadyCopied n

@@ -6,7 +6,7 @@ use Rattle.object_graph.specs.Names.{root_name}
 use Rattle.object_graph.specs.declared.names.Object.{Object}
 use Rattle.object_graph.specs.Graphs.{has_name, has_object, refers, is_at, objects_at, IsReachedFrom}
 use Rattle.object_graph.specs.Slots.{below}
-use Rattle.store_model.specs.Worlds.{World, Transaction, OpenedCut, Opening, Doubt, no_doubt, commit_in_doubt, sweep_in_doubt, Write, link, assign, slots_of, starts, find_transaction, is_unfreed, is_old, IsOutOfReach, IsLost}
+use Rattle.store_model.specs.Worlds.{World, Transaction, OpenedCut, Opening, Doubt, no_doubt, commit_in_doubt, sweep_in_doubt, Write, link, assign, slots_of, starts, find_transaction, is_freed, is_unfreed, is_old, IsOutOfReach, IsLost}
 use Rattle.store_model.specs.Causes.{has_page, name_at}
 
 -- ---- the graph
@@ -104,6 +104,10 @@ pub record KeepsLost (w : World) (opening : Opening) : Type 0 where
 abbrev pub KeepsLostOf : World → OpenedCut → Type 0
 KeepsLostOf w cut = KeepsLost w cut.opening
 
+-- on each page that is swept all that was lost is freed
+abbrev pub HasFreedSwept : World → OpenedCut → Type 0
+HasFreedSwept w cut = (name : NameParts) → IsLost cut.opening name → IsTrue (has_page cut.swept name.page) → IsTrue (is_freed w name)
+
 -- only a broken world is in doubt, and a commit in doubt is that of an open transaction
 abbrev pub IsDoubtOf : World → Doubt → Type 0
 IsDoubtOf w no_doubt = Unit {0}
@@ -115,4 +119,5 @@ pub record IsLawful (w : World) : Type 0 where
   pub orderly : IsOrderly w
   pub freed : AllByRecursion (IsOutOfReach w) w.freed
   pub lost : MatchOption w.cut (Unit {0}) (KeepsLostOf w)
+  pub swept : MatchOption w.cut (Unit {0}) (HasFreedSwept w)
   pub doubt : IsDoubtOf w w.doubt

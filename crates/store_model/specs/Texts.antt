@@ -84,6 +84,22 @@ refusal_numbers (Broken faults) = faults ∷ []
 refusal_numbers (Damaged at) = at ∷ []
 refusal_numbers _ = []
 
+-- the numbers in a reply that frees nothing, in the order of its text
+abbrev pub reply_numbers : Reply → List ℕ
+reply_numbers (Ref (Some name)) = name.page ∷ name.slot ∷ name.generation ∷ []
+reply_numbers (Num value) = value ∷ []
+reply_numbers (Made name) = name.page ∷ name.slot ∷ name.generation ∷ []
+reply_numbers (Committed commits) = commits ∷ []
+reply_numbers (Cut number) = number ∷ []
+reply_numbers (Reopened commits) = commits ∷ []
+reply_numbers (Refused why) = refusal_numbers why
+reply_numbers _ = []
+
+-- the reply tells which slots were freed
+abbrev pub is_freeing : Reply → Bool
+is_freeing (Freed slots) = true
+is_freeing _ = false
+
 -- each number fits 64 bits
 abbrev pub AreShort : List ℕ → Type 0
 AreShort numbers = AllByRecursion (λ n. n < 2 ^ 64) numbers

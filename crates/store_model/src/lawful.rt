@@ -1,12 +1,12 @@
 //! What each world of a history keeps, and what follows from it.
-ghost use Rattle.std.specs.Prelude.{◌≡◌, ℕ, suc, false, IsTrue, ◌<◌, ◌⊎◌, List, length, map};
+ghost use Rattle.std.specs.Prelude.{◌≡◌, ℕ, suc, Some, false, IsTrue, ◌<◌, ◌⊎◌, List, length, map};
 ghost use Rattle.std.specs.List.{AllByRecursion};
 ghost use Rattle.object_graph.specs.NameParts.{NameParts};
 ghost use Rattle.object_graph.specs.Slots.{below};
-ghost use Rattle.object_graph.specs.declared.calls.Call.TheVariants.{New, Commit};
-ghost use Rattle.object_graph.specs.declared.calls.Reply.TheVariants.{Made, Committed};
+ghost use Rattle.object_graph.specs.declared.calls.Call.TheVariants.{New, Commit, EndCut};
+ghost use Rattle.object_graph.specs.declared.calls.Reply.TheVariants.{Done, Made, Committed};
 ghost use Rattle.object_graph.specs.Graphs.{has_name, has_object, objects_at};
-ghost use Rattle.store_model.specs.Worlds.{World, Transaction, Note, Event, fresh_world, transaction, is_freed, IsReached, IsHeldBy};
+ghost use Rattle.store_model.specs.Worlds.{World, Transaction, OpenedCut, Note, Event, IsLost, fresh_world, transaction, is_freed, IsReached, IsHeldBy};
 ghost use Rattle.store_model.specs.Members.{In};
 ghost use Rattle.store_model.specs.Replies.{Allows, AllowsReply};
 ghost use Rattle.store_model.specs.Steps.{next, after_reply};
@@ -60,4 +60,9 @@ pub fn what_is_out_of_reach_stays_so()
 /// What is freed is out of reach of the root and of every open transaction.
 pub fn what_is_freed_is_out_of_reach()
     ensures { (w : World) (name : NameParts) → IsLawful w → IsTrue (is_freed w name) → IsOutOfReach w name }
+{}
+
+/// Where the end of a cut is answered as done, all that was out of reach as it opened is freed.
+pub fn an_ended_cut_has_freed_all_that_was_lost()
+    ensures { (w : World) (cut : OpenedCut) (note : Note) (name : NameParts) → IsLawful w → w.cut ≡ Some cut → AllowsReply w EndCut note Done → IsLost cut.opening name → IsTrue (is_freed w name) }
 {}

@@ -23,7 +23,8 @@ pub use histories::{
     histories_in_two_parts, is_refused, one_more_event, present_marks_are_of_no_other_cut,
 };
 pub use lawful::{
-    a_commit_reaches_own_objects_alone, a_new_name_is_new, each_event_keeps_the_world_lawful,
+    a_commit_reaches_own_objects_alone, a_new_name_is_new,
+    an_ended_cut_has_freed_all_that_was_lost, each_event_keeps_the_world_lawful,
     fresh_worlds_are_lawful, histories_keep_the_world_lawful, names_count_up,
     what_a_transaction_holds_is_reached_or_its_own, what_is_freed_is_out_of_reach,
     what_is_out_of_reach_stays_so,
@@ -33,4 +34,6 @@ pub use steps::{
     broken_comes_first, commits_do_not_fall, committed_names_stay, freed_names_stay,
     only_commits_and_reopenings_change_the_graph, refusals_leave_the_world,
 };
-pub use texts::{no_two_calls_have_one_text, no_two_refusals_have_one_text};
+pub use texts::{
+    no_two_calls_have_one_text, no_two_refusals_have_one_text, no_two_replies_have_one_text,
+};

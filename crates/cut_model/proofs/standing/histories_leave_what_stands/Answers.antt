@@ -1,4 +1,4 @@
-use Rattle.cut_model.proofs.Headline.{history_stands}
+use Rattle.cut_model.proofs.Fresh.{history_stands}
 use Rattle.cut_model.proofs.standing.histories_leave_what_stands.Goals as goal
 
 pub returns : goal.returns
