@@ -2,3 +2,4 @@ pub mod Sizes
 pub mod Slots
 pub mod Spelling
 pub mod Pages
+pub mod Fields

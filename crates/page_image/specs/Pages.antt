@@ -29,6 +29,9 @@ abbrev pub object_of : ℕ → ℕ → SlotParts → Option Object
 object_of page slot s =
     if s.in_use then Some (record { name = record { page = page; slot = slot; generation = s.generation }; number = s.number; refs = s.refs }) else None
 
+abbrev pub object_at : PageParts → ℕ → Option Object
+object_at page slot = object_of page.number slot (slot_at page slot)
+
 -- a slot after some slots were freed
 abbrev pub slot_freed : ℕ → ℕ → SlotParts → SlotParts
 slot_freed slots slot s = if has_slot slots slot then freed s else s

@@ -1,9 +1,11 @@
 //! A page as a value.
-ghost use Rattle.std.specs.Prelude.{◌≡◌, ◌<◌, ℕ, true, false, length, IfOk, IfSome, IfNone, OnErr, IsTrue, slice_index_or};
+ghost use Rattle.std.specs.Prelude.{◌≡◌, ◌<◌, ℕ, true, false, length, IfOk, IfSome, IfNone, OnErr, IfErr, Ok, Err, IsTrue, slice_index_or, ◌&&◌, nat_lt};
 ghost use Rattle.object_graph.specs.Slots.{has_slot};
 ghost use Rattle.page_image.specs.Slots.{fresh_slot, taken, freed, with_number, with_ref, has_room};
-ghost use Rattle.page_image.specs.Pages.{empty_page, slot_at, with_slot, object_of, slot_freed, IsFull, IsFirstWithRoom, IsNextName};
+ghost use Rattle.page_image.specs.Fields.{page_at};
+ghost use Rattle.page_image.specs.Pages.{empty_page, slot_at, with_slot, object_at, object_of, slot_freed, IsFull, IsFirstWithRoom, IsNextName};
 
+use crate::decode::{BadPage, number_of, read_slots, wrong_in_header, wrong_in_slots};
 use crate::slot::Slot;
 use object_graph::{Name, Object, SlotSet};
 use std::marker::Model;
@@ -49,6 +51,26 @@ impl Page {
         }
     }
 
+    /// The page that the bytes spell. Where no page is spelled so, the answer is the place of the
+    /// first wrong field (FORMATS.md, "Pages").
+    pub fn decode(bytes: &[u8; 1024]) -> Result<Page, BadPage>
+        ensures ok { IfOk result (λ page. page_at bytes.now ≡ Ok page) }
+        ensures bad { IfErr result (λ bad. page_at bytes.now ≡ Err bad.at) }
+    {
+        match wrong_in_header(bytes) {
+            Some(at) => return Err(BadPage { at }),
+            None => {}
+        }
+        match wrong_in_slots(bytes) {
+            Some(at) => return Err(BadPage { at }),
+            None => {}
+        }
+        Ok(Page {
+            number: number_of(bytes),
+            slots: read_slots(bytes),
+        })
+    }
+
     pub fn number(&self) -> u32
         ensures value { result ≡ self.now.number }
         ensures bound { result < 4096 }
@@ -62,6 +84,34 @@ impl Page {
         ensures { result ≡ (slot_at self.now slot).generation }
     {
         self.slots[usize::from(slot)].generation()
+    }
+
+    /// The object in a slot, if there is one.
+    pub fn object(&self, slot: u16) -> Option<Object>
+        ensures { result ≡ object_at self.now slot }
+    {
+        let slots = &self.slots[..];
+        if usize::from(slot) >= slots.len() {
+            return None;
+        }
+        object_in(self.number, slot, &slots[usize::from(slot)])
+    }
+
+    /// The slots that are in use.
+    pub fn used(&self) -> SlotSet
+        ensures { (slot : ℕ) → has_slot result slot ≡ (slot_at self.now slot).in_use }
+    {
+        used_among(&self.slots)
+    }
+
+    /// Frees the objects in these slots. Their generations stay.
+    pub fn free_slots(&mut self, slots: SlotSet)
+        requires used { (slot : ℕ) → IsTrue (has_slot slots slot) → (slot_at self.old slot).in_use ≡ true }
+        ensures number { self.new.number ≡ self.old.number }
+        ensures count { length self.new.slots ≡ length self.old.slots }
+        ensures freed { (slot : ℕ) → slot_at self.new slot ≡ slot_freed slots slot (slot_at self.old slot) }
+    {
+        free_among(&mut self.slots, slots);
     }
 
     /// Sets the number of the object in a slot.
@@ -115,4 +165,55 @@ fn first_with_room(slots: &[Slot]) -> Option<u16>
         }
     }
     None
+}
+
+/// The object in a slot of a page.
+fn object_in(page: u32, at: u16, slot: &Slot) -> Option<Object>
+    requires page { page < 4096 }
+    requires at { at < 40 }
+    ensures { result ≡ object_of page at slot.now }
+{
+    if !slot.in_use() {
+        return None;
+    }
+    slot.fits();
+    let name = Name::at(page, at, slot.generation());
+    let refs = [
+        slot.reference(0),
+        slot.reference(1),
+        slot.reference(2),
+        slot.reference(3),
+    ];
+    Some(Object {
+        name,
+        number: slot.number(),
+        refs,
+    })
+}
+
+/// The slots that are in use.
+fn used_among(slots: &[Slot]) -> SlotSet
+    requires { length slots.now ≡ 20 }
+    ensures { (slot : ℕ) → has_slot result slot ≡ (slice_index_or slots.now slot fresh_slot).in_use }
+{
+    let mut used = SlotSet::empty();
+    for slot in 0..SLOTS as u16 {
+        if slots[usize::from(slot)].in_use() {
+            used = used.with(slot);
+        }
+    }
+    used
+}
+
+/// Frees the slots of a set.
+fn free_among(slots: &mut [Slot], set: SlotSet)
+    requires { length slots.old ≡ 20 }
+    ensures count { length slots.new ≡ length slots.old }
+    ensures freed { (slot : ℕ) → slot < 20 → slice_index_or slots.new slot fresh_slot ≡ slot_freed set slot (slice_index_or slots.old slot fresh_slot) }
+{
+    for slot in 0..SLOTS as u16 {
+        if set.has(slot) {
+            slots[usize::from(slot)] = slots[usize::from(slot)].freed();
+        }
+    }
 }

@@ -40,6 +40,19 @@ impl Slot {
         }
     }
 
+    /// The slot of these parts.
+    pub fn of(in_use: bool, generation: u16, number: u64, refs: [Option<Name>; 4]) -> Slot
+        requires { IsSlot (record { in_use = in_use; generation = generation; number = number; refs = refs }) }
+        ensures { result ≡ record { in_use = in_use; generation = generation; number = number; refs = refs } }
+    {
+        Slot {
+            in_use,
+            generation,
+            number,
+            refs,
+        }
+    }
+
     /// The slot with the next object in it.
     pub fn taken(&self) -> Slot
         requires { self.now.generation < 65535 }
