@@ -3,9 +3,11 @@ ghost use Rattle.std.specs.Prelude.{◌≡◌, ◌<◌, ℕ, true, false, length
 ghost use Rattle.object_graph.specs.Slots.{has_slot};
 ghost use Rattle.page_image.specs.Slots.{fresh_slot, taken, freed, with_number, with_ref, has_room};
 ghost use Rattle.page_image.specs.Fields.{page_at};
+ghost use Rattle.page_image.specs.Spelling.{page_bytes};
 ghost use Rattle.page_image.specs.Pages.{empty_page, slot_at, with_slot, object_at, object_of, slot_freed, IsFull, IsFirstWithRoom, IsNextName};
 
 use crate::decode::{BadPage, number_of, read_slots, wrong_in_header, wrong_in_slots};
+use crate::encode::{put_header, put_slots};
 use crate::slot::Slot;
 use object_graph::{Name, Object, SlotSet};
 use std::marker::Model;
@@ -69,6 +71,14 @@ impl Page {
             number: number_of(bytes),
             slots: read_slots(bytes),
         })
+    }
+
+    /// Writes the page's one spelling.
+    pub fn encode(&self, out: &mut [u8; 1024])
+        ensures { out.new ≡ page_bytes self.now }
+    {
+        put_header(out, self.number);
+        put_slots(out, &self.slots);
     }
 
     pub fn number(&self) -> u32
