@@ -1,11 +1,12 @@
 -- What contracts see of a page, and how its calls change it.
 use Rattle.std.specs.Prelude.{◌≡◌, ℕ, ◌+◌, ◌<◌, Bool, true, false, List, Option, Some, None, replicate, slice_index_or, slice_set, map, length, filter, if◌then◌else◌}
+use Rattle.std.specs.List.{AllByRecursion}
 use Rattle.object_graph.specs.NameParts.{NameParts}
 use Rattle.object_graph.specs.SlotParts.{SlotParts}
 use Rattle.object_graph.specs.Slots.{has_slot, below}
 use Rattle.object_graph.specs.declared.names.Object.{Object}
-use Rattle.page_image.specs.Sizes.{slots_per_page}
-use Rattle.page_image.specs.Slots.{fresh_slot, taken, freed, with_number, with_ref, has_room}
+use Rattle.page_image.specs.Sizes.{slots_per_page, page_limit}
+use Rattle.page_image.specs.Slots.{fresh_slot, taken, freed, with_number, with_ref, has_room, IsWhole}
 
 -- the number of the page and its slots
 pub record PageParts : Type 0 where
@@ -51,3 +52,9 @@ pub record IsNextName (of : PageParts) (name : NameParts) : Type 0 where
   pub page : name.page ≡ of.number
   pub slot : IsFirstWithRoom of name.slot
   pub generation : name.generation ≡ (slot_at of name.slot).generation + 1
+
+-- what each page is: a number of a page, and so many slots, each whole
+pub record IsPage (p : PageParts) : Type 0 where
+  pub number : p.number < page_limit
+  pub count : length p.slots ≡ slots_per_page
+  pub slots : AllByRecursion IsWhole p.slots

@@ -1,5 +1,5 @@
 -- Slots of a page, and how they change.
-use Rattle.std.specs.Prelude.{◌≡◌, ℕ, ◌+◌, ◌≤◌, Bool, true, false, not, ◌&&◌, List, Option, Some, None, replicate, slice_set, nat_lt, length}
+use Rattle.std.specs.Prelude.{◌≡◌, ℕ, ◌+◌, ◌≤◌, ◌<◌, ◌^◌, Bool, true, false, not, ◌&&◌, List, Option, Some, None, replicate, slice_set, nat_lt, length}
 use Rattle.std.specs.List.{AllByRecursion}
 use Rattle.object_graph.specs.NameParts.{NameParts, IsName}
 use Rattle.object_graph.specs.SlotParts.{SlotParts}
@@ -16,6 +16,12 @@ pub record IsSlot (s : SlotParts) : Type 0 where
   pub free : s.in_use ≡ false → (s.number ≡ 0) × (s.refs ≡ replicate refs_per_object None)
   pub count : length s.refs ≡ refs_per_object
   pub refs : AllByRecursion IsReference s.refs
+
+-- a slot whose numbers fit their bytes
+pub record IsWhole (s : SlotParts) : Type 0 where
+  pub slot : IsSlot s
+  pub generation : s.generation < 2 ^ 16
+  pub number : s.number < 2 ^ 64
 
 -- a slot that nothing was ever in
 abbrev pub fresh_slot : SlotParts
