@@ -8,6 +8,7 @@ use Rattle.std.proofs.lemmas.Bool.{cases_lt, eq-eqb, ne_eqb}
 use Rattle.std.proofs.lemmas.List.Concat.{flat_map_single}
 use Rattle.object_graph.specs.Slots.{below}
 use Rattle.page_image.specs.Fields.{Field, first_wrong, slot_fields, fields_of_slot, slot_piece, slot_start, byte_at, zeros, header_fields, page_fields, page_of, page_or, page_at}
+use Rattle.page_image.specs.Pages.{PageParts}
 use Rattle.page_image.specs.Sizes.{slots_per_page}
 
 -- where the first table is right, the second decides
@@ -116,3 +117,20 @@ page_at-slots bytes at header is = ap (page_or (page_of bytes)) (first_wrong-aft
 
 pub page_at-right : (bytes : List ℕ) → first_wrong (header_fields bytes) ≡ None → first_wrong (flat_map (fields_of_slot bytes) (below slots_per_page)) ≡ None → page_at bytes ≡ Ok (page_of bytes)
 page_at-right bytes header is = ap (page_or (page_of bytes)) (first_wrong-after (header_fields bytes) (flat_map (fields_of_slot bytes) (below slots_per_page)) header ∙ is)
+
+-- what is right of a page that is read
+pub record IsRead (bytes : List ℕ) (said : PageParts) : Type 0 where
+  pub header : first_wrong (header_fields bytes) ≡ None
+  pub slots : first_wrong (flat_map (fields_of_slot bytes) (below slots_per_page)) ≡ None
+  pub page : page_of bytes ≡ said
+
+pub page_at-read : (bytes : List ℕ) (page : PageParts) → page_at bytes ≡ Ok page → IsRead bytes page
+page_at-read bytes page is = by_first (first_wrong (page_fields bytes)) refl is
+  where
+    by_first : (first : Option ℕ) → first_wrong (page_fields bytes) ≡ first → page_or (page_of bytes) first ≡ Ok page → IsRead bytes page
+    by_first None none e = record {
+      header = first_wrong-front (header_fields bytes) (flat_map (fields_of_slot bytes) (below slots_per_page)) none;
+      slots = first_wrong-back (header_fields bytes) (flat_map (fields_of_slot bytes) (below slots_per_page)) none;
+      page = cc e;
+    }
+    by_first (Some at) none e = absurd (cc e)

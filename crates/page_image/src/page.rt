@@ -4,7 +4,7 @@ ghost use Rattle.object_graph.specs.Slots.{has_slot};
 ghost use Rattle.page_image.specs.Slots.{fresh_slot, taken, freed, with_number, with_ref, has_room};
 ghost use Rattle.page_image.specs.Fields.{page_at};
 ghost use Rattle.page_image.specs.Spelling.{page_bytes};
-ghost use Rattle.page_image.specs.Pages.{empty_page, slot_at, with_slot, object_at, object_of, slot_freed, IsFull, IsFirstWithRoom, IsNextName};
+ghost use Rattle.page_image.specs.Pages.{PageParts, IsPage, empty_page, slot_at, with_slot, object_at, object_of, slot_freed, IsFull, IsFirstWithRoom, IsNextName};
 
 use crate::decode::{BadPage, number_of, read_slots, wrong_in_header, wrong_in_slots};
 use crate::encode::{put_header, put_slots};
@@ -58,6 +58,10 @@ impl Page {
     pub fn decode(bytes: &[u8; 1024]) -> Result<Page, BadPage>
         ensures ok { IfOk result (λ page. page_at bytes.now ≡ Ok page) }
         ensures bad { IfErr result (λ bad. page_at bytes.now ≡ Err bad.at) }
+
+        // It is Ok exactly where some page has this spelling, with that page.
+        ensures spelled { IfOk result (λ page. page_bytes page ≡ bytes.now) }
+        ensures only { (page : PageParts) → IsPage page → page_bytes page ≡ bytes.now → result ≡ Ok page }
     {
         match wrong_in_header(bytes) {
             Some(at) => return Err(BadPage { at }),
@@ -75,7 +79,8 @@ impl Page {
 
     /// Writes the page's one spelling.
     pub fn encode(&self, out: &mut [u8; 1024])
-        ensures { out.new ≡ page_bytes self.now }
+        ensures spelled { out.new ≡ page_bytes self.now }
+        ensures again { page_at out.new ≡ Ok self.now }
     {
         put_header(out, self.number);
         put_slots(out, &self.slots);
@@ -186,7 +191,6 @@ fn object_in(page: u32, at: u16, slot: &Slot) -> Option<Object>
     if !slot.in_use() {
         return None;
     }
-    slot.fits();
     let name = Name::at(page, at, slot.generation());
     let refs = [
         slot.reference(0),

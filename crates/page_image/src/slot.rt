@@ -78,24 +78,29 @@ impl Slot {
         }
     }
 
+    /// Whether an object is in use there.
     pub fn in_use(&self) -> bool
-        ensures { result ≡ self.now.in_use }
+        ensures value { result ≡ self.now.in_use }
+        ensures fits { IsSlot self.now }
     {
         self.in_use
     }
 
+    /// The stored generation.
     pub fn generation(&self) -> u16
         ensures { result ≡ self.now.generation }
     {
         self.generation
     }
 
+    /// Whether a new object can take it.
     pub fn has_room(&self) -> bool
         ensures { result ≡ has_room self.now }
     {
         !self.in_use && self.generation < 65535
     }
 
+    /// The number of its object.
     pub fn number(&self) -> u64
         ensures { result ≡ self.now.number }
     {
@@ -111,13 +116,7 @@ impl Slot {
         refs[field]
     }
 
-    /// What each slot keeps.
-    pub fn fits(&self)
-        ensures { IsSlot self.now }
-    {
-        let _in_use = self.in_use;
-    }
-
+    /// Sets the number of its object.
     pub fn set_number(&mut self, number: u64)
         requires { self.old.in_use ≡ true }
         ensures { self.new ≡ with_number number self.old }
@@ -125,6 +124,7 @@ impl Slot {
         self.number = number;
     }
 
+    /// Sets a reference of its object.
     pub fn set_ref(&mut self, field: usize, target: &Option<Name>)
         requires used { self.old.in_use ≡ true }
         requires field { field < length self.old.refs }

@@ -1,11 +1,16 @@
-use Rattle.std.proofs.Common.{◌≡◌, ℕ, ◌+◌, ◌*◌, ◌<◌, ◌++◌, [], ◌∷◌, List, take, length, sym, ap, ◌∙◌, arith}
-use Rattle.std.specs.List.{flat_map}
+use Rattle.std.proofs.Common.{◌≡◌, ℕ, ◌+◌, ◌*◌, ◌<◌, ◌++◌, [], ◌∷◌, List, take, length, sym, ap, subst, ◌∙◌, arith}
+use Rattle.std.specs.List.{flat_map, AllByRecursion}
 use Rattle.std.proofs.lemmas.Grind.{flat_map-append}
 use Rattle.std.proofs.lemmas.List.{take_more, take_all, append-nil}
 use Rattle.object_graph.specs.SlotParts.{SlotParts}
+use Rattle.page_image.specs.Slots.{IsWhole}
 use Rattle.page_image.specs.Spelling.{slot_bytes}
 use Rattle.page_image.proofs.Writes.{onward}
 use Rattle.page_image.proofs.encode.put_slots.Goals as goal
+
+all-append : (slots : List SlotParts) (slot : SlotParts) → AllByRecursion IsWhole slots → IsWhole slot → AllByRecursion IsWhole (slots ++ slot ∷ [])
+all-append [] slot are is = (is, tt)
+all-append (s ∷ slots) slot are is = (are.0, all-append slots slot are.1 is)
 
 pub loop-slot-preserved : goal.loop-slot-preserved
 loop-slot-preserved c =
@@ -18,8 +23,9 @@ loop-slot-preserved c =
     let more : take (l.slot + 1) slots ≡ take l.slot slots ++ slot ∷ [] = take_more slots l.slot slot there ∙ ap (λ (s : SlotParts). take l.slot slots ++ s ∷ []) (sym c.index-slots-slot.is) in
     (
       c.put.ensures.long ∙ l.invariant.0,
+      subst (AllByRecursion IsWhole) (sym more) (all-append (take l.slot slots) slot l.invariant.1 c.bytes_of.ensures.whole),
       ap (λ (k : ℕ). take k c.put.new.out) place
-      ∙ (onward (take 64 c.args.out.now) (take n l.out) (take (n + length c.bytes_of.result) c.put.new.out) (flat_map slot_bytes (take l.slot slots)) c.bytes_of.result l.invariant.1 c.put.ensures.front
+      ∙ (onward (take 64 c.args.out.now) (take n l.out) (take (n + length c.bytes_of.result) c.put.new.out) (flat_map slot_bytes (take l.slot slots)) c.bytes_of.result l.invariant.2 c.put.ensures.front
       ∙ ap (λ (b : List ℕ). take 64 c.args.out.now ++ (flat_map slot_bytes (take l.slot slots) ++ b)) (c.bytes_of.ensures.bytes ∙ sym (append-nil (slot_bytes slot)))
       ∙ ap (λ (b : List ℕ). take 64 c.args.out.now ++ b) (sym (ap (flat_map slot_bytes) more ∙ flat_map-append slot_bytes (take l.slot slots) (slot ∷ [])))),
     )
