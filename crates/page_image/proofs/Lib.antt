@@ -1,0 +1,5 @@
+pub mod Tables
+pub mod Right
+pub mod Writes
+pub mod Again
+pub mod Takes
