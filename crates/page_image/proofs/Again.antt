@@ -41,8 +41,8 @@ pub name_again-valid : (n : NameParts) → IsName n → is_name_number (n.page *
 name_again-valid n is =
     let same = name_again n is in
     and_from _ _
-      (ap (λ m. nat_lt m.page 4096) same ∙ lt-ltb n.page 4096 is.page)
-      (and_from _ _ (ap (λ m. nat_lt m.slot 40) same ∙ lt-ltb n.slot 40 is.slot) (ap (λ m. nat_le 1 m.generation) same ∙ le-leb 1 n.generation is.first))
+    (ap (λ m. nat_lt m.page 4096) same ∙ lt-ltb n.page 4096 is.page)
+    (and_from _ _ (ap (λ m. nat_lt m.slot 40) same ∙ lt-ltb n.slot 40 is.slot) (ap (λ m. nat_le 1 m.generation) same ∙ le-leb 1 n.generation is.first))
 
 pub name_some : (n : NameParts) → IsName n → (n.page * 4294967296 + n.slot * 65536 + n.generation == 0) ≡ false
 name_some n is = let first = is.first in ne_eqb _ 0 (λ e. omega (arith, e, first))
@@ -109,6 +109,7 @@ slot_again s is = by_state s.in_use s.generation s.number s.refs is
     by_refs generation number (a ∷ b ∷ c ∷ []) w = absurd (let n = w.slot.count in omega (arith, n))
     by_refs generation number (a ∷ b ∷ c ∷ d ∷ []) w = (used_right generation number a b c d w, used_again generation number a b c d w)
     by_refs generation number (a ∷ b ∷ c ∷ d ∷ e ∷ more) w = absurd (let n = w.slot.count in omega (arith, n))
+
     by_state : (in_use : Bool) (generation number : ℕ) (refs : List (Option NameParts)) → IsWhole (record { in_use = in_use; generation = generation; number = number; refs = refs })
         → (first_wrong (slot_fields (slot_bytes (record { in_use = in_use; generation = generation; number = number; refs = refs }))) ≡ None) × (slot_of (slot_bytes (record { in_use = in_use; generation = generation; number = number; refs = refs })) ≡ record { in_use = in_use; generation = generation; number = number; refs = refs })
     by_state true generation number refs w = by_refs generation number refs w

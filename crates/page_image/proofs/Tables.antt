@@ -100,7 +100,7 @@ one_more_zero bytes from n before is =
     let next : suc n ≡ n + 1 = omega arith in
     let now : first_wrong (zero_field bytes from n) ≡ None = rw (eq-eqb (byte_at bytes (from + n)) 0 is) refl in
     subst (λ (k : ℕ). first_wrong (zeros bytes from k) ≡ None) next
-      (ap first_wrong (zeros-flat bytes from (suc n)) ∙ one_more_right (zero_field bytes from) n (sym (ap first_wrong (zeros-flat bytes from n)) ∙ before) now)
+    (ap first_wrong (zeros-flat bytes from (suc n)) ∙ one_more_right (zero_field bytes from) n (sym (ap first_wrong (zeros-flat bytes from n)) ∙ before) now)
 
 pub no_zero : (bytes : List ℕ) (from count n : ℕ) → n < count → first_wrong (zeros bytes from n) ≡ None → (byte_at bytes (from + n) ≡ 0 → ⊥) → first_wrong (zeros bytes from count) ≡ Some (from + n)
 no_zero bytes from count n among before wrong =

@@ -97,27 +97,27 @@ slot_takes bytes long are is =
     let zero_at : (at : ℕ) → at < 48 → (byte_at bytes at == 0) ≡ true → part bytes at 1 ≡ 0 ∷ [] = λ at within e. one at within ∙ ap (λ (b : ℕ). b ∷ []) (eqb-true (byte_at bytes at) 0 e) in
     let state : part bytes 0 1 ≡ state_byte (byte_at bytes 0 == 1) ∷ [] = one 0 (omega arith) ∙ ap (λ (b : ℕ). b ∷ []) (sym (state_spelled (byte_at bytes 0) right.state)) in
     let whole =
-          more bytes 0 40 8 _ _
-            (more bytes 0 32 8 _ _
-            (more bytes 0 24 8 _ _
-            (more bytes 0 16 8 _ _
-            (more bytes 0 8 8 _ _
-            (more bytes 0 7 1 _ _
-            (more bytes 0 6 1 _ _
-            (more bytes 0 5 1 _ _
-            (more bytes 0 4 1 _ _
-            (more bytes 0 2 2 _ _
-            (more bytes 0 1 1 _ _ state (zero_at 1 (omega arith) right.zero_1))
-            (sym (number_2 bytes 2 (omega (arith, long)) are)))
-            (zero_at 4 (omega arith) right.zero_4))
-            (zero_at 5 (omega arith) right.zero_5))
-            (zero_at 6 (omega arith) right.zero_6))
-            (zero_at 7 (omega arith) right.zero_7))
-            (sym (number_8 bytes 8 (omega (arith, long)) are)))
-            (sym (reference_8 bytes 16 (omega (arith, long)) are)))
-            (sym (reference_8 bytes 24 (omega (arith, long)) are)))
-            (sym (reference_8 bytes 32 (omega (arith, long)) are)))
-            (sym (reference_8 bytes 40 (omega (arith, long)) are)) in
+    more bytes 0 40 8 _ _
+    (more bytes 0 32 8 _ _
+    (more bytes 0 24 8 _ _
+    (more bytes 0 16 8 _ _
+    (more bytes 0 8 8 _ _
+    (more bytes 0 7 1 _ _
+    (more bytes 0 6 1 _ _
+    (more bytes 0 5 1 _ _
+    (more bytes 0 4 1 _ _
+    (more bytes 0 2 2 _ _
+    (more bytes 0 1 1 _ _ state (zero_at 1 (omega arith) right.zero_1))
+    (sym (number_2 bytes 2 (omega (arith, long)) are)))
+    (zero_at 4 (omega arith) right.zero_4))
+    (zero_at 5 (omega arith) right.zero_5))
+    (zero_at 6 (omega arith) right.zero_6))
+    (zero_at 7 (omega arith) right.zero_7))
+    (sym (number_8 bytes 8 (omega (arith, long)) are)))
+    (sym (reference_8 bytes 16 (omega (arith, long)) are)))
+    (sym (reference_8 bytes 24 (omega (arith, long)) are)))
+    (sym (reference_8 bytes 32 (omega (arith, long)) are)))
+    (sym (reference_8 bytes 40 (omega (arith, long)) are)) in
     sym whole ∙ take_all 48 bytes (omega (arith, long))
 
 -- the zeros of a right header are right
@@ -136,12 +136,12 @@ header_takes bytes long are is =
     let within : 10 + 54 ≤ length bytes = omega (arith, long) in
     let zeros_are = all_zero bytes 10 54 within (zeros_part bytes 10 54 within (zeros_right bytes is)) in
     more bytes 0 10 54 _ _
-      (more bytes 0 9 1 _ _
-      (more bytes 0 8 1 _ _
-      (more bytes 0 4 4 _ _ mark (sym (number_4 bytes 4 (omega (arith, long)) are)))
-      (one 8 4 (omega arith) right.1.1.0))
-      (one 9 20 (omega arith) right.1.1.1.0))
-      zeros_are
+    (more bytes 0 9 1 _ _
+    (more bytes 0 8 1 _ _
+    (more bytes 0 4 4 _ _ mark (sym (number_4 bytes 4 (omega (arith, long)) are)))
+    (one 8 4 (omega arith) right.1.1.0))
+    (one 9 20 (omega arith) right.1.1.1.0))
+    zeros_are
 
 -- the bytes of right slots are spelled by what they say
 pub slots_take : (bytes : List ℕ) (n : ℕ) → 64 + 48 * n ≤ length bytes → AreBytes bytes → ((k : ℕ) → k < n → first_wrong (slot_fields (slot_piece bytes k)) ≡ None)
@@ -154,7 +154,7 @@ slots_take bytes (suc n) within are right =
     ap (flat_map slot_bytes) (map-append read (below n) (n ∷ []))
     ∙ (flat_map-append slot_bytes (map read (below n)) (read n ∷ [])
     ∙ ((λ i. slots_take bytes n (omega (arith, within)) are (λ k among. right k (omega (arith, among))) i
-        ++ (append-nil (slot_bytes (read n)) ∙ slot_takes (slot_piece bytes n) (length-part bytes (slot_start n) 48 here) (part_bytes bytes (slot_start n) 48 here are) (right n (omega arith))) i)
+    ++ (append-nil (slot_bytes (read n)) ∙ slot_takes (slot_piece bytes n) (length-part bytes (slot_start n) 48 here) (part_bytes bytes (slot_start n) 48 here are) (right n (omega arith))) i)
     ∙ (sym (joined bytes 64 (48 * n) 48) ∙ ap (part bytes 64) next)))
 
 -- a page that is read is spelled so

@@ -8,3 +8,6 @@ mod slot;
 
 pub use decode::BadPage;
 pub use page::{Page, PageFull};
+
+#[cfg(test)]
+mod tests;

@@ -22,4 +22,4 @@ read_reference-requires-4 c = let right = slot_right c.args.bytes.now c.requires
 pub of-requires : goal.of-requires
 of-requires c = let right = slot_right c.args.bytes.now c.requires.right in
     rw (c.read_reference.ensures, c.read_reference-2.ensures, c.read_reference-3.ensures, c.read_reference-4.ensures, c.u64_at.ensures, c.u64_at-2.ensures, c.u64_at-3.ensures, c.u64_at-4.ensures, c.u16_at.ensures, c.u64_at-5.ensures)
-      (slot_fits (is_used c.args.bytes.now) _ _ _ _ _ _ right.generation right.number right.references.first right.references.second right.references.third right.references.fourth)
+    (slot_fits (is_used c.args.bytes.now) _ _ _ _ _ _ right.generation right.number right.references.first right.references.second right.references.third right.references.fourth)

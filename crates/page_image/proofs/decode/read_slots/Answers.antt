@@ -15,13 +15,12 @@ loop-slot-preserved c =
     let l = c.loop-slot in
     let bytes = c.args.bytes.now in
     let read = λ (slot : ℕ). slot_of (slot_piece bytes slot) in
-    let long = l.invariant.0 in
-    (
+    let long = l.invariant.0 in (
       length-set l.slots l.slot c.read_slot.result ∙ long,
       take_more_set l.slots l.slot c.read_slot.result (omega (arith, long, c.loop-slot-test.true))
-      ∙ ap (λ front. front ++ c.read_slot.result ∷ []) l.invariant.1
-      ∙ ap (λ s. map read (below l.slot) ++ s ∷ []) (c.read_slot.ensures ∙ ap slot_of c.piece.ensures.piece)
-      ∙ sym (ap (map read) (below-more l.slot) ∙ map-append read (below l.slot) (l.slot ∷ [])),
+          ∙ ap (λ front. front ++ c.read_slot.result ∷ []) l.invariant.1
+          ∙ ap (λ s. map read (below l.slot) ++ s ∷ []) (c.read_slot.ensures ∙ ap slot_of c.piece.ensures.piece)
+          ∙ sym (ap (map read) (below-more l.slot) ∙ map-append read (below l.slot) (l.slot ∷ [])),
     )
 
 pub returns : goal.returns

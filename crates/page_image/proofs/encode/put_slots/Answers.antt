@@ -20,12 +20,11 @@ loop-slot-preserved c =
     let n = 64 + 48 * l.slot in
     let there : l.slot < length slots = omega (arith, c.requires.count, c.loop-slot-test.true) in
     let place : 64 + 48 * (l.slot + 1) ≡ n + length c.bytes_of.result = omega (arith, c.bytes_of.ensures.long) in
-    let more : take (l.slot + 1) slots ≡ take l.slot slots ++ slot ∷ [] = take_more slots l.slot slot there ∙ ap (λ (s : SlotParts). take l.slot slots ++ s ∷ []) (sym c.index-slots-slot.is) in
-    (
+    let more : take (l.slot + 1) slots ≡ take l.slot slots ++ slot ∷ [] = take_more slots l.slot slot there ∙ ap (λ (s : SlotParts). take l.slot slots ++ s ∷ []) (sym c.index-slots-slot.is) in (
       c.put.ensures.long ∙ l.invariant.0,
       subst (AllByRecursion IsWhole) (sym more) (all-append (take l.slot slots) slot l.invariant.1 c.bytes_of.ensures.whole),
       ap (λ (k : ℕ). take k c.put.new.out) place
-      ∙ (onward (take 64 c.args.out.now) (take n l.out) (take (n + length c.bytes_of.result) c.put.new.out) (flat_map slot_bytes (take l.slot slots)) c.bytes_of.result l.invariant.2 c.put.ensures.front
-      ∙ ap (λ (b : List ℕ). take 64 c.args.out.now ++ (flat_map slot_bytes (take l.slot slots) ++ b)) (c.bytes_of.ensures.bytes ∙ sym (append-nil (slot_bytes slot)))
-      ∙ ap (λ (b : List ℕ). take 64 c.args.out.now ++ b) (sym (ap (flat_map slot_bytes) more ∙ flat_map-append slot_bytes (take l.slot slots) (slot ∷ [])))),
+          ∙ (onward (take 64 c.args.out.now) (take n l.out) (take (n + length c.bytes_of.result) c.put.new.out) (flat_map slot_bytes (take l.slot slots)) c.bytes_of.result l.invariant.2 c.put.ensures.front
+          ∙ ap (λ (b : List ℕ). take 64 c.args.out.now ++ (flat_map slot_bytes (take l.slot slots) ++ b)) (c.bytes_of.ensures.bytes ∙ sym (append-nil (slot_bytes slot)))
+          ∙ ap (λ (b : List ℕ). take 64 c.args.out.now ++ b) (sym (ap (flat_map slot_bytes) more ∙ flat_map-append slot_bytes (take l.slot slots) (slot ∷ [])))),
     )
