@@ -1,17 +1,26 @@
 -- Graphs of objects, paths in them, and their changes.
-use Rattle.std.specs.Prelude.{◌≡◌, ℕ, Bool, false, ◌&&◌, ◌==◌, Option, Some, None, List, [], ◌∷◌, IsTrue, find, filter, map, replicate, slice_set, if◌then◌else◌}
-use Rattle.std.specs.List.{list_any}
+use Rattle.std.specs.Prelude.{◌≡◌, ℕ, Bool, false, ◌&&◌, ◌==◌, Option, Some, None, List, [], ◌∷◌, IsTrue, find, filter, replicate, slice_set, if◌then◌else◌, length}
+use Rattle.std.specs.List.{list_any, IsDistinct}
+use Rattle.std.specs.Option.{option_map_or}
 use Rattle.object_graph.specs.NameParts.{NameParts}
 use Rattle.object_graph.specs.Names.{name_eq, root_name}
 use Rattle.object_graph.specs.declared.names.Object.{Object}
+
+-- how many references an object of the plain graph has
+abbrev pub object_fields : ℕ
+object_fields = 4
 
 -- an object as it is made, with so many references
 abbrev pub fresh_object : ℕ → NameParts → Object
 fresh_object fields name = record { name = name; number = 0; refs = replicate fields None }
 
+-- an object with this number and no references
+abbrev pub numbered_object : ℕ → NameParts → ℕ → Object
+numbered_object fields name number = record (fresh_object fields name) { number = number }
+
 -- the graph of a fresh store: the root alone
 abbrev pub fresh_graph : List Object
-fresh_graph = fresh_object 4 root_name ∷ []
+fresh_graph = fresh_object object_fields root_name ∷ []
 
 -- the object of this name
 abbrev pub object_named : List Object → NameParts → Option Object
@@ -20,6 +29,18 @@ object_named graph name = find (λ o. name_eq o.name name) graph
 -- the graph has an object of this name
 abbrev pub has_object : List Object → NameParts → Bool
 has_object graph name = list_any (λ o. name_eq o.name name) graph
+
+-- two objects have one name
+abbrev pub has_same_name : Object → Object → Bool
+has_same_name a b = name_eq a.name b.name
+
+-- each name at most once
+abbrev pub HasEachNameOnce : List Object → Type 0
+HasEachNameOnce graph = IsDistinct has_same_name graph
+
+-- how many references the object of this name has: 0 where there is none
+abbrev pub fields_in : List Object → NameParts → ℕ
+fields_in graph name = option_map_or (λ (o : Object). length o.refs) (object_named graph name) 0
 
 -- a list of names has this one
 abbrev pub has_name : List NameParts → NameParts → Bool

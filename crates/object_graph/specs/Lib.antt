@@ -3,3 +3,4 @@ pub mod Names
 pub mod Slots
 pub mod SlotParts
 pub mod Graphs
+pub mod Walks

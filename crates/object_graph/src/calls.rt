@@ -13,20 +13,55 @@ pub enum Phase {
 /// A call of the store.
 #[derive(Clone, Copy, Debug, PartialEq, Eq)]
 pub enum Call {
-    Begin { txn: u32 },
-    Get { txn: u32, name: Name, field: u32 },
-    Number { txn: u32, name: Name },
-    Set { txn: u32, name: Name, field: u32, target: Option<Name> },
-    Put { txn: u32, name: Name, value: u64 },
-    New { txn: u32, page: u32 },
-    Commit { txn: u32 },
-    Abort { txn: u32 },
+    Begin {
+        txn: u32,
+    },
+    Get {
+        txn: u32,
+        name: Name,
+        field: u32,
+    },
+    Number {
+        txn: u32,
+        name: Name,
+    },
+    Set {
+        txn: u32,
+        name: Name,
+        field: u32,
+        target: Option<Name>,
+    },
+    Put {
+        txn: u32,
+        name: Name,
+        value: u64,
+    },
+    New {
+        txn: u32,
+        page: u32,
+    },
+    Commit {
+        txn: u32,
+    },
+    Abort {
+        txn: u32,
+    },
     OpenCut,
-    Copy { page: u32 },
-    HandIn { page: u32, cut: u64, seen: u64 },
+    Copy {
+        page: u32,
+    },
+    HandIn {
+        page: u32,
+        cut: u64,
+        seen: u64,
+    },
     Close,
-    Mark { workers: u32 },
-    Sweep { page: u32 },
+    Mark {
+        workers: u32,
+    },
+    Sweep {
+        page: u32,
+    },
     EndCut,
     DropCut,
     Reopen,

@@ -1,6 +1,7 @@
 //! Names and objects.
 ghost use Rattle.std.specs.Prelude.{◌≡◌, ℕ, ◌+◌, ◌-◌, ◌*◌, ◌/◌, ◌%◌, ◌^◌, ◌<◌, ◌≤◌, ◌↔◌, IfSome, IsSome};
-ghost use Rattle.object_graph.specs.Names.{number_of, IsName, IsNumberOfName};
+ghost use Rattle.object_graph.specs.NameParts.{NameParts};
+ghost use Rattle.object_graph.specs.Names.{number_of, root_name, IsName, IsNumberOfName};
 
 use std::marker::Model;
 
@@ -33,6 +34,13 @@ pub const ROOT: Name = Name {
 };
 
 impl Name {
+    /// `ROOT`, the root's name, as contracts see it.
+    pub fn root() -> Name
+        ensures { result ≡ root_name }
+    {
+        ROOT
+    }
+
     /// The name with this number, if it is a name's.
     pub fn of(number: u64) -> Option<Name>
         ensures some { IsSome result ↔ IsNumberOfName number }
@@ -52,6 +60,32 @@ impl Name {
         }
     }
 
+    /// This name once more. Each name has the bounds of a name.
+    pub fn copy(&self) -> Name
+        ensures same { result ≡ self.now }
+        ensures bounds { IsName result }
+    {
+        let _ = &self.page;
+        *self
+    }
+
+    /// The name of these parts.
+    pub fn at(page: u32, slot: u16, generation: u16) -> Name
+        requires page { page < 4096 }
+        requires slot { slot < 40 }
+        requires first { 1 ≤ generation }
+        ensures page { result.page ≡ page }
+        ensures slot { result.slot ≡ slot }
+        ensures generation { result.generation ≡ generation }
+    {
+        Name {
+            page,
+            slot,
+            generation,
+        }
+    }
+
+    /// The page on which the object is.
     pub fn page(self) -> u32
         ensures value { result ≡ self.page }
         ensures bound { result < 4096 }
@@ -59,6 +93,7 @@ impl Name {
         self.page
     }
 
+    /// The slot of that page.
     pub fn slot(self) -> u16
         ensures value { result ≡ self.slot }
         ensures bound { result < 40 }
@@ -66,6 +101,7 @@ impl Name {
         self.slot
     }
 
+    /// Which object of that slot it is, counted from 1.
     pub fn generation(self) -> u16
         ensures value { result ≡ self.generation }
         ensures bound { 1 ≤ result }
@@ -73,12 +109,21 @@ impl Name {
         self.generation
     }
 
+    /// The number of the name (FORMATS.md, "Names").
     pub fn to_u64(self) -> u64
         ensures { result ≡ number_of self }
     {
         (self.page as u64) * 0x1_0000_0000 + (self.slot as u64) * 0x1_0000 + self.generation as u64
     }
 }
+
+/// Names and their numbers are one to one: two names never have one number, each name's number is a
+/// name's, and each number that is a name's is the number of a name.
+pub fn names_and_numbers_are_one_to_one()
+    ensures apart { (m n : NameParts) → IsName m → IsName n → number_of m ≡ number_of n → m ≡ n }
+    ensures to { (n : NameParts) → IsName n → IsNumberOfName (number_of n) }
+    ensures from { (k : ℕ) → IsNumberOfName k → (n : NameParts) × IsName n × (number_of n ≡ k) }
+{}
 
 /// An object with its fields.
 #[derive(Clone, Copy, Debug, PartialEq, Eq)]

@@ -1,5 +1,5 @@
 //! Sets of slots.
-ghost use Rattle.std.specs.Prelude.{◌≡◌, ℕ, ◌<◌, ◌↔◌, IsTrue, ◌||◌};
+ghost use Rattle.std.specs.Prelude.{◌≡◌, ℕ, ◌<◌, ◌^◌, ◌↔◌, ◌==◌, ◌||◌, ◌&&◌, false, not, IfNone, IfSome, IsTrue};
 ghost use Rattle.object_graph.specs.Slots.{has_slot};
 
 use std::marker::Model;
@@ -23,12 +23,15 @@ impl Model for SlotSet {
 }
 
 impl SlotSet {
+    /// The set without a slot.
     pub fn empty() -> SlotSet
-        ensures { result ≡ 0 }
+        ensures value { result ≡ 0 }
+        ensures none { (s : ℕ) → has_slot result s ≡ false }
     {
         SlotSet { bits: 0 }
     }
 
+    /// Whether the slot is in the set.
     pub fn has(self, slot: u16) -> bool
         requires { slot < 40 }
         ensures { result ≡ has_slot self slot }
@@ -36,6 +39,26 @@ impl SlotSet {
         (self.bits >> slot) & 1 == 1
     }
 
+    /// The set with this slot in it.
+    pub fn with(self, slot: u16) -> SlotSet
+        requires { slot < 40 }
+        ensures { (s : ℕ) → has_slot result s ≡ (has_slot self s || s == slot) }
+    {
+        SlotSet {
+            bits: self.bits | (1 << slot),
+        }
+    }
+
+    /// The slots of this set that aren't in the other.
+    pub fn without(self, other: SlotSet) -> SlotSet
+        ensures { (s : ℕ) → has_slot result s ≡ (has_slot self s && not (has_slot other s)) }
+    {
+        SlotSet {
+            bits: self.bits & !other.bits,
+        }
+    }
+
+    /// The slots of both sets.
     pub fn union(self, other: SlotSet) -> SlotSet
         ensures { (s : ℕ) → has_slot result s ≡ (has_slot self s || has_slot other s) }
     {
@@ -44,9 +67,30 @@ impl SlotSet {
         }
     }
 
+    /// Whether no slot is in the set.
     pub fn is_empty(self) -> bool
-        ensures { IsTrue result ↔ (self ≡ 0) }
+        ensures number { IsTrue result ↔ (self ≡ 0) }
+        ensures slots { IsTrue result ↔ ((s : ℕ) → s < 40 → has_slot self s ≡ false) }
     {
         self.bits == 0
     }
+
+    /// The least slot of the set, `None` for the empty set.
+    pub fn least(self) -> Option<u16>
+        ensures none { IfNone result (self ≡ 0) }
+        ensures bound { IfSome result (λ slot. slot < 40) }
+        ensures has { IfSome result (λ slot. IsTrue (has_slot self slot)) }
+        ensures least { IfSome result (λ slot. (s : ℕ) → s < slot → has_slot self s ≡ false) }
+    {
+        if self.bits == 0 {
+            None
+        } else {
+            Some(self.bits.trailing_zeros() as u16)
+        }
+    }
 }
+
+/// Two sets with the same slots are one set.
+pub fn sets_are_their_slots()
+    ensures { (a b : ℕ) → a < 2 ^ 40 → b < 2 ^ 40 → ((s : ℕ) → s < 40 → has_slot a s ≡ has_slot b s) → a ≡ b }
+{}

@@ -1,5 +1,5 @@
 use Rattle.std.proofs.lemmas.List.Edits.{map_over_more}
-use Rattle.std.proofs.Common.{◌<◌, length, arith, ◌≡◌, ◌∙◌, sym, ap, set}
+use Rattle.std.proofs.Common.{◌<◌, length, arith, ◌∙◌, sym, ap, set}
 use Rattle.object_graph.specs.Graphs.{with_number}
 use Rattle.object_graph.proofs.graph.put_number.Goals as goal
 
