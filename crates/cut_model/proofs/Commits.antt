@@ -13,8 +13,8 @@ use Rattle.store_model.specs.Images.{shown_slot}
 use Rattle.store_model.specs.Worlds.{World, Transaction, Opening, slots_of, fields_of, starts, view, new_object}
 use Rattle.store_model.specs.Causes.{has_page}
 use Rattle.store_model.specs.Lawful.{IsOwn, IsLawfulTransaction}
-use Rattle.store_model.proofs.Members.{In, any_in, in_any, in_filter, filter_in, each_in, each_from, or_right}
-use Rattle.store_model.proofs.Paths.{in_has_name}
+use Rattle.object_graph.proofs.Members.{In, any_in, in_any, in_filter, filter_in, each_in, each_from, or_right}
+use Rattle.object_graph.proofs.Paths.{in_has_name}
 use Rattle.store_model.proofs.Images.{commit_keeps_slot}
 use Rattle.store_model.proofs.Reach.{name-with_writes, view_object}
 use Rattle.store_model.proofs.Cuts.{safe_view}

@@ -14,7 +14,7 @@ use Rattle.object_graph.specs.declared.calls.Reply.TheVariants.{Done, Cut, Refus
 use Rattle.object_graph.specs.declared.calls.Refusal.{Refusal}
 use Rattle.object_graph.specs.declared.calls.Refusal.TheVariants.{DiskFault, CutThere, NoCut, WrongPhase, Broken, NoPage, AlreadyCopied, AlreadySwept, OtherCut, Uncopied, Unswept, Memory}
 use Rattle.object_graph.specs.Slots.{below}
-use Rattle.store_model.specs.Members.{In}
+use Rattle.object_graph.specs.Members.{In}
 use Rattle.store_model.specs.Worlds.{World, OpenedCut, Note, nothing, marks, Event}
 use Rattle.store_model.specs.Causes.{has_page, first_met, first_refusal, when, broken, cut_there, spent, on_cut, is_phase, wrong_phase, no_page, already_copied, already_swept, other_cut, wrong_marks, missing, uncopied, unswept, new_name}
 use Rattle.store_model.specs.Replies.{AllowsReply, Answers, is_free}

@@ -5,7 +5,7 @@ use Rattle.object_graph.specs.SlotParts.{SlotParts}
 use Rattle.object_graph.specs.declared.names.Object.{Object}
 use Rattle.object_graph.specs.Slots.{below}
 use Rattle.store_model.specs.Worlds.{Opening}
-use Rattle.store_model.proofs.Members.{In, each_in}
+use Rattle.object_graph.proofs.Members.{In, each_in}
 use Rattle.store_model.proofs.Cuts.{below_bound}
 use Rattle.cut_model.specs.States.{State, shown_by}
 use Rattle.cut_model.specs.Images.{objects_of}

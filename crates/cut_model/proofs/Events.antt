@@ -14,7 +14,7 @@ use Rattle.store_model.specs.Worlds.{World, Transaction, Opening, Note, transact
 use Rattle.store_model.specs.Causes.{has_page, first_refusal, new_name}
 use Rattle.store_model.specs.Replies.{AllowsReply}
 use Rattle.store_model.specs.Steps.{after_refusal, after_answer, after_reply, with_new}
-use Rattle.store_model.proofs.Members.{In}
+use Rattle.object_graph.proofs.Members.{In}
 use Rattle.store_model.proofs.Opened.{commit_is_open}
 use Rattle.store_model.specs.Lawful.{IsOrderly}
 use Rattle.cut_model.specs.States.{State, state_of, state_after, KeepsOpening}

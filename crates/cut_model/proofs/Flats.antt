@@ -6,7 +6,7 @@ use Rattle.object_graph.specs.SlotParts.{SlotParts}
 use Rattle.object_graph.specs.declared.names.Object.{Object}
 use Rattle.object_graph.specs.Slots.{below}
 use Rattle.store_model.proofs.Lists.{in_below}
-use Rattle.store_model.proofs.Members.{In, in_append, append_left, append_right}
+use Rattle.object_graph.proofs.Members.{In, in_append, append_left, append_right}
 use Rattle.store_model.proofs.Cuts.{below_bound}
 use Rattle.cut_model.specs.Images.{flat, no_slot, object_in, objects_in, objects_of}
 

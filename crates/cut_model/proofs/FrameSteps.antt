@@ -18,8 +18,8 @@ use Rattle.object_graph.specs.Slots.{below}
 use Rattle.store_model.specs.Images.{slot_with, shown_slot}
 use Rattle.store_model.specs.Worlds.{World, Transaction, slots_of, fields_of, Write, link, assign, starts, view, with_writes, written_by, new_object}
 use Rattle.store_model.specs.Steps.{writes, makes}
-use Rattle.store_model.proofs.Members.{In, in_filter, filter_in, in_map, each_in, or_left, or_right}
-use Rattle.store_model.proofs.Paths.{name_eq_same, name_eq_refl}
+use Rattle.object_graph.proofs.Members.{In, in_filter, filter_in, in_map, each_in, or_left, or_right}
+use Rattle.object_graph.proofs.Paths.{name_eq_same, name_eq_refl}
 use Rattle.store_model.proofs.Places.{map_of_map, filter_of_map}
 use Rattle.store_model.proofs.Reach.{name-written_by, name-with_writes}
 use Rattle.store_model.specs.Worlds.{is_unfreed}

@@ -13,8 +13,8 @@ use Rattle.store_model.specs.Worlds.{World, Transaction, Opening, Note, is_freed
 use Rattle.store_model.specs.Causes.{first_refusal, new_name}
 use Rattle.store_model.specs.Replies.{AllowsReply}
 use Rattle.store_model.specs.Steps.{after_answer, after_reply, opening_of}
-use Rattle.store_model.proofs.Members.{In, in_filter, each_from}
-use Rattle.store_model.proofs.Paths.{in_has_object}
+use Rattle.object_graph.proofs.Members.{In, in_filter, each_from}
+use Rattle.object_graph.proofs.Paths.{in_has_object}
 use Rattle.store_model.specs.Lawful.{IsOrderly}
 use Rattle.store_model.specs.Worlds.{is_unfreed}
 use Rattle.cut_model.specs.States.{State, state_of, state_after, generation_at, KeepsOpening}

@@ -19,7 +19,7 @@ use Rattle.store_model.specs.Causes.{has_page, no_page as page_cause, already_co
 use Rattle.store_model.specs.Replies.{AllowsReply, Answers, MayFree}
 use Rattle.store_model.specs.Steps.{with_page, with_cut, with_new, opened, opening_of, swept, has_swept, after_refusal, after_answer, after_reply}
 use Rattle.store_model.specs.Worlds.{IsOutOfReach}
-use Rattle.store_model.proofs.Members.{In}
+use Rattle.object_graph.proofs.Members.{In}
 use Rattle.store_model.proofs.Allowed.{when_none, with_page_cases}
 use Rattle.store_model.specs.Lawful.{IsOrderly}
 use Rattle.cut_model.specs.States.{State, state_of, state_after, KeepsOpening}

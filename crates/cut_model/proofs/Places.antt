@@ -9,8 +9,8 @@ use Rattle.object_graph.specs.Slots.{has_slot}
 use Rattle.object_graph.specs.declared.names.Object.{Object}
 use Rattle.object_graph.specs.Graphs.{has_object, has_name, objects_at}
 use Rattle.store_model.specs.Worlds.{World, Opening, is_freed}
-use Rattle.store_model.proofs.Members.{In}
-use Rattle.store_model.proofs.Paths.{name_of, has_object_in}
+use Rattle.object_graph.proofs.Members.{In}
+use Rattle.object_graph.proofs.Paths.{name_of, has_object_in}
 use Rattle.store_model.specs.Lawful.{IsOrderly}
 use Rattle.store_model.specs.Worlds.{is_unfreed}
 use Rattle.cut_model.specs.States.{unfreed_at, generation_with, generation_at}

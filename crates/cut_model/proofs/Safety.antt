@@ -12,8 +12,8 @@ use Rattle.store_model.specs.Worlds.{World, Opening, starts, is_freed, IsReached
 use Rattle.store_model.specs.Worlds.{IsOutOfReach}
 use Rattle.store_model.specs.Lawful.{IsPlaced}
 use Rattle.store_model.specs.Worlds.{slots_of, fields_of}
-use Rattle.store_model.proofs.Members.{In, any_in, in_any, each_in, filter_in}
-use Rattle.store_model.proofs.Paths.{name_eq_same, has_name_in, has_object_in, in_has_object, reached_more, path_first}
+use Rattle.object_graph.proofs.Members.{In, any_in, in_any, each_in, filter_in}
+use Rattle.object_graph.proofs.Paths.{name_eq_same, has_name_in, has_object_in, in_has_object, reached_more, path_first}
 use Rattle.store_model.proofs.OutOfReach.{unreached_is_out}
 use Rattle.store_model.specs.Lawful.{KeepsLost}
 use Rattle.store_model.specs.Worlds.{is_unfreed, is_old, IsLost}

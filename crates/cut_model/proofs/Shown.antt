@@ -10,8 +10,8 @@ use Rattle.object_graph.specs.Graphs.{is_at, objects_at}
 use Rattle.object_graph.specs.Slots.{below}
 use Rattle.store_model.specs.Images.{slot_with, shown_slot}
 use Rattle.store_model.specs.Lawful.{CountsUp, OnlyLastUnfreed}
-use Rattle.store_model.proofs.Members.{In, in_append, in_filter, filter_in, in_map, map_in, each_in}
-use Rattle.store_model.proofs.Paths.{name_of}
+use Rattle.object_graph.proofs.Members.{In, in_append, in_filter, filter_in, in_map, map_in, each_in}
+use Rattle.object_graph.proofs.Paths.{name_of}
 use Rattle.store_model.proofs.Cuts.{below_bound}
 use Rattle.store_model.specs.Worlds.{is_unfreed}
 use Rattle.store_model.specs.Images.{shown_of}

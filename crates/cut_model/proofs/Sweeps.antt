@@ -11,8 +11,8 @@ use Rattle.store_model.specs.Worlds.{World, Opening, OpenedCut, is_freed, unfree
 use Rattle.store_model.specs.Causes.{has_page}
 use Rattle.store_model.specs.Replies.{names_in, IsGarbage, MayFree}
 use Rattle.store_model.specs.Steps.{with_page, swept}
-use Rattle.store_model.proofs.Members.{In, append_left, append_right, in_append, in_filter, filter_in, in_map, map_in, each_from}
-use Rattle.store_model.proofs.Paths.{has_name_in, in_has_name, has_object_in}
+use Rattle.object_graph.proofs.Members.{In, append_left, append_right, in_append, in_filter, filter_in, in_map, map_in, each_from}
+use Rattle.object_graph.proofs.Paths.{has_name_in, in_has_name, has_object_in}
 use Rattle.store_model.specs.Lawful.{IsOrderly}
 use Rattle.store_model.specs.Worlds.{is_unfreed}
 use Rattle.cut_model.specs.States.{unfreed_at}

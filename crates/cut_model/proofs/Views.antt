@@ -11,8 +11,8 @@ use Rattle.object_graph.specs.declared.names.Object.{Object}
 use Rattle.object_graph.specs.Graphs.{has_name, has_object, is_at, is_to, refers, objects_at}
 use Rattle.store_model.specs.Worlds.{World, Transaction, Opening, slots_of, fields_of, starts, view, with_writes, new_object}
 use Rattle.store_model.specs.Lawful.{IsOwn, IsLawfulTransaction}
-use Rattle.store_model.proofs.Members.{In, in_any, in_filter, each_in, each_from}
-use Rattle.store_model.proofs.Paths.{name_eq_refl, has_name_in}
+use Rattle.object_graph.proofs.Members.{In, in_any, in_filter, each_in, each_from}
+use Rattle.object_graph.proofs.Paths.{name_eq_refl, has_name_in}
 use Rattle.store_model.proofs.Places.{filter_of_map, objects_at-map}
 use Rattle.store_model.proofs.Lists.{filter_same}
 use Rattle.store_model.proofs.Keeps.{view_kept}

@@ -4,7 +4,7 @@ use Rattle.object_graph.specs.declared.calls.Call.{Call}
 use Rattle.object_graph.specs.declared.calls.Call.TheVariants.{Copy, HandIn, Close, Mark, Sweep, EndCut, DropCut, Reopen}
 use Rattle.object_graph.specs.declared.calls.Reply.TheVariants.{Refused}
 use Rattle.object_graph.specs.declared.calls.Refusal.TheVariants.{DiskFault}
-use Rattle.store_model.specs.Members.{In}
+use Rattle.object_graph.specs.Members.{In}
 use Rattle.store_model.specs.Worlds.{Event, marks}
 
 -- no fault, and no call that takes the cut away

@@ -8,7 +8,7 @@ use Rattle.object_graph.specs.Graphs.{has_object}
 use Rattle.store_model.specs.Worlds.{World, Opening, is_freed}
 use Rattle.store_model.specs.Causes.{has_page}
 use Rattle.store_model.specs.Worlds.{IsOutOfReach}
-use Rattle.store_model.specs.Members.{In}
+use Rattle.object_graph.specs.Members.{In}
 use Rattle.store_model.specs.Worlds.{is_old, IsLost}
 use Rattle.cut_model.specs.Images.{no_slot, objects_of}
 use Rattle.cut_model.specs.CutPages.{CutPage, bare_page, settled_image, IsMarked}

@@ -10,7 +10,7 @@ use Rattle.object_graph.specs.declared.calls.Reply.TheVariants.{Refused}
 use Rattle.object_graph.specs.declared.names.Object.{Object}
 use Rattle.store_model.specs.Worlds.{World, OpenedCut, Event, starts}
 use Rattle.store_model.specs.Steps.{next}
-use Rattle.store_model.specs.Members.{In}
+use Rattle.object_graph.specs.Members.{In}
 use Rattle.store_model.specs.Causes.{has_page}
 use Rattle.store_model.specs.Lawful.{KeepsLost, IsLawful}
 use Rattle.cut_model.specs.States.{state_of, KeepsOpening}

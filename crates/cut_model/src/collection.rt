@@ -6,7 +6,7 @@ ghost use Rattle.object_graph.specs.declared.names.Object.{Object};
 ghost use Rattle.object_graph.specs.Slots.{has_slot};
 ghost use Rattle.object_graph.specs.declared.calls.Call.TheVariants.{Sweep};
 ghost use Rattle.object_graph.specs.declared.calls.Reply.TheVariants.{Freed};
-ghost use Rattle.store_model.specs.Members.{In};
+ghost use Rattle.object_graph.specs.Members.{In};
 ghost use Rattle.store_model.specs.Worlds.{World, Opening, OpenedCut, Note, starts, IsReached, IsLost};
 ghost use Rattle.store_model.specs.Causes.{first_refusal};
 ghost use Rattle.store_model.specs.Replies.{AllowsReply, MayFree};

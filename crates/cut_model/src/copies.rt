@@ -2,7 +2,7 @@
 ghost use Rattle.std.specs.Prelude.{◌≡◌, ℕ, ◌<◌, false, List, length, replicate, slice_index_or, slice_set};
 ghost use Rattle.object_graph.specs.declared.calls.Call.{Call as AnyCall};
 ghost use Rattle.object_graph.specs.declared.calls.Reply.{Reply as AnyReply};
-ghost use Rattle.store_model.specs.Members.{In};
+ghost use Rattle.object_graph.specs.Members.{In};
 ghost use Rattle.store_model.specs.Worlds.{World, Transaction, Opening, Note};
 ghost use Rattle.store_model.specs.Replies.{AllowsReply};
 ghost use Rattle.store_model.specs.Steps.{after_reply, opening_of};

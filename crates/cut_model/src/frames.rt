@@ -5,7 +5,7 @@ ghost use Rattle.object_graph.specs.NameParts.{NameParts};
 ghost use Rattle.object_graph.specs.Names.{name_eq};
 ghost use Rattle.object_graph.specs.declared.names.Object.{Object};
 ghost use Rattle.object_graph.specs.Graphs.{has_name, is_at, objects_at};
-ghost use Rattle.store_model.specs.Members.{In};
+ghost use Rattle.object_graph.specs.Members.{In};
 ghost use Rattle.store_model.specs.Worlds.{World, Transaction, Write, slots_of, fields_of, starts, view, is_unfreed};
 ghost use Rattle.store_model.specs.Images.{shown, shown_in, shown_slot};
 ghost use Rattle.store_model.specs.Causes.{has_page};

@@ -16,8 +16,8 @@ use Rattle.store_model.specs.Causes.{has_page, first_refusal, causes, not_open, 
 use Rattle.store_model.specs.Limits.{last_generation}
 use Rattle.store_model.specs.Steps.{with_page, with_name, with_target, with_transaction, with_new, reads_page, writes, makes}
 use Rattle.store_model.specs.Lawful.{IsOwn, IsKnownWrite, IsCovered, IsLawfulTransaction, IsApart}
-use Rattle.store_model.proofs.Members.{In, in_append, append_left, append_right, each_in, each_from, or_left, or_right}
-use Rattle.store_model.proofs.Paths.{has_name_in, in_has_name}
+use Rattle.object_graph.proofs.Members.{In, in_append, append_left, append_right, each_in, each_from, or_left, or_right}
+use Rattle.object_graph.proofs.Paths.{has_name_in, in_has_name}
 use Rattle.store_model.proofs.Cuts.{below_bound}
 use Rattle.store_model.proofs.Allowed.{when_none, mapped_none, nobody_holds, with_page_cases}
 use Rattle.store_model.specs.Lawful.{IsOrderly}

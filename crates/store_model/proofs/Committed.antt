@@ -13,8 +13,8 @@ use Rattle.store_model.specs.Worlds.{World, Transaction, starts, view, is_freed,
 use Rattle.store_model.specs.Causes.{has_page}
 use Rattle.store_model.specs.Steps.{without, committed}
 use Rattle.store_model.specs.Lawful.{IsOwn, IsCovered, IsLawfulTransaction, IsApart, AreApart}
-use Rattle.store_model.proofs.Members.{In, any_in, in_filter, filter_in, map_in, each_in, each_from, append_right, or_right}
-use Rattle.store_model.proofs.Paths.{has_name_in, in_has_object}
+use Rattle.object_graph.proofs.Members.{In, any_in, in_filter, filter_in, map_in, each_in, each_from, append_right, or_right}
+use Rattle.object_graph.proofs.Paths.{has_name_in, in_has_object}
 use Rattle.store_model.proofs.Places.{filter_of_map, commit_counts_up}
 use Rattle.store_model.proofs.Locks.{name_in_view, commit_keeps_covered}
 use Rattle.store_model.proofs.Images.{objects_away, none_new}

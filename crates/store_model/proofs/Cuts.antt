@@ -10,8 +10,8 @@ use Rattle.object_graph.specs.Slots.{below}
 use Rattle.store_model.specs.Worlds.{World, Transaction, starts, view, IsReached, new_object, with_writes, fields_of}
 use Rattle.store_model.specs.Causes.{name_at}
 use Rattle.store_model.specs.Lawful.{IsKnownWrite, IsOwn, IsLawfulTransaction, CountsUp, generations_at}
-use Rattle.store_model.proofs.Members.{In, any_in, in_any, filter_in, in_map, map_in, in_append, each_in}
-use Rattle.store_model.proofs.Paths.{has_name_in, has_object_in, is_to_same, name_eq_same, name_eq_refl}
+use Rattle.object_graph.proofs.Members.{In, any_in, in_any, filter_in, in_map, map_in, in_append, each_in}
+use Rattle.object_graph.proofs.Paths.{has_name_in, has_object_in, is_to_same, name_eq_same, name_eq_refl}
 use Rattle.store_model.proofs.Reach.{IsSafeView, IsOwnOrReached, commit_adds_own, view_object, name-with_writes, refs-with_writes, known_name, target_known, none_only}
 
 pub below_bound : (n j : ℕ) → In j (below n) → j < n

@@ -10,8 +10,8 @@ use Rattle.object_graph.specs.Graphs.{has_name, has_object, object_named, is_to,
 use Rattle.store_model.specs.Worlds.{World, Transaction, Write, link, assign, starts, transaction, view, with_writes, new_object, fields_of}
 use Rattle.store_model.specs.Causes.{has_page, field_seen}
 use Rattle.store_model.specs.Lawful.{IsOwn, IsKnownWrite, IsCovered, IsCoveredPath, IsLawfulTransaction}
-use Rattle.store_model.proofs.Members.{In, in_any, each_in, or_left, or_right}
-use Rattle.store_model.proofs.Paths.{name_eq_refl, name_eq_same, has_name_in, in_has_object}
+use Rattle.object_graph.proofs.Members.{In, in_any, each_in, or_left, or_right}
+use Rattle.object_graph.proofs.Paths.{name_eq_refl, name_eq_same, has_name_in, in_has_object}
 use Rattle.store_model.proofs.Reach.{name-with_writes, refs-with_writes, none_only, view_object, covered, target_known}
 use Rattle.store_model.specs.Lawful.{IsOrderly}
 use Rattle.store_model.proofs.OutOfReach.{safe_one}

@@ -17,8 +17,8 @@ use Rattle.store_model.specs.Causes.{first_refusal, new_name}
 use Rattle.store_model.specs.Replies.{AllowsReply, names_in, found_in}
 use Rattle.store_model.specs.Steps.{after_answer, after_reply, opening_of, slots_freed, commits_found, graph_in_doubt, reopened}
 use Rattle.store_model.specs.Worlds.{IsOutOfReach}
-use Rattle.store_model.proofs.Members.{In, append_right, in_filter, in_map}
-use Rattle.store_model.proofs.Paths.{has_name_in, in_has_name, reached_more}
+use Rattle.object_graph.proofs.Members.{In, append_right, in_filter, in_map}
+use Rattle.object_graph.proofs.Paths.{has_name_in, in_has_name, reached_more}
 use Rattle.store_model.proofs.Reach.{IsSafeView}
 use Rattle.store_model.proofs.Cuts.{refers_from, view_refers}
 use Rattle.store_model.specs.Lawful.{KeepsLost, IsOrderly}

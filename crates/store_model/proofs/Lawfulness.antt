@@ -23,8 +23,8 @@ use Rattle.store_model.specs.Steps.{with_new, opened, after_refusal, after_answe
 use Rattle.store_model.specs.Histories.{after, IsLegal}
 use Rattle.store_model.specs.Lawful.{KeepsLost, KeepsLostOf, IsDoubtOf, IsLawful, IsOrderly, HasFreedSwept, IsPlaced}
 use Rattle.store_model.proofs.Allowed.{first_met_none, when_none, with_page_cases}
-use Rattle.store_model.proofs.Members.{append_left, each_in}
-use Rattle.store_model.proofs.Paths.{has_name_in, in_has_name, has_object_in}
+use Rattle.object_graph.proofs.Members.{append_left, each_in}
+use Rattle.object_graph.proofs.Paths.{has_name_in, in_has_name, has_object_in}
 use Rattle.store_model.proofs.Opened.{nones}
 use Rattle.store_model.proofs.Keeps.{Grows, still_freed, grows_answer, freed_grows, opening_keeps_lost, event_keeps_lost}
 use Rattle.store_model.proofs.Orderly.{event_is_orderly, event_keeps_freed}

@@ -9,12 +9,10 @@ pub mod Images
 pub mod Keeps
 pub mod Lists
 pub mod Locks
-pub mod Members
 pub mod Opened
 pub mod Orderly
 pub mod Orders
 pub mod OutOfReach
-pub mod Paths
 pub mod Places
 pub mod Reach
 pub mod Rounds

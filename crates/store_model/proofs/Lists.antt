@@ -10,7 +10,7 @@ use Rattle.store_model.specs.Worlds.{Transaction}
 use Rattle.store_model.specs.Causes.{has_page}
 use Rattle.store_model.specs.Steps.{with_page, with_name}
 use Rattle.store_model.specs.Lawful.{IsApart, AreApart}
-use Rattle.store_model.proofs.Members.{In, each_in, each_from, or_right, append_left, append_right}
+use Rattle.object_graph.proofs.Members.{In, each_in, each_from, or_right, append_left, append_right}
 
 -- ---- elements
 

@@ -11,8 +11,8 @@ use Rattle.store_model.specs.Worlds.{World, Transaction, Note, transaction}
 use Rattle.store_model.specs.Causes.{has_page, causes, free_slot, name_at}
 use Rattle.store_model.specs.Replies.{AllowsReply, AnswersNew}
 use Rattle.store_model.specs.Lawful.{IsOwn, IsOrderly}
-use Rattle.store_model.proofs.Members.{In, in_any, each_in, each_from}
-use Rattle.store_model.proofs.Paths.{has_name_in}
+use Rattle.object_graph.proofs.Members.{In, in_any, each_in, each_from}
+use Rattle.object_graph.proofs.Paths.{has_name_in}
 use Rattle.store_model.proofs.Cuts.{next_name_is_new}
 use Rattle.store_model.proofs.Opened.{nones, is_open, number_of_open, open_in}
 use Rattle.store_model.proofs.Orders.{the_one, lawful_one}

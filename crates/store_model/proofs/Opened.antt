@@ -7,7 +7,7 @@ use Rattle.object_graph.specs.declared.calls.Call.TheVariants.{Commit}
 use Rattle.object_graph.specs.declared.calls.Refusal.{Refusal}
 use Rattle.store_model.specs.Worlds.{World, Transaction, Note, find_transaction, transaction, fresh_transaction}
 use Rattle.store_model.specs.Causes.{first_met, first_refusal, broken, not_open, spent}
-use Rattle.store_model.proofs.Members.{In}
+use Rattle.object_graph.proofs.Members.{In}
 use Rattle.store_model.proofs.Lists.{find_in, find_passes}
 use Rattle.store_model.proofs.Allowed.{first_met_none, when_none}
 

@@ -20,8 +20,8 @@ use Rattle.store_model.specs.Replies.{AllowsReply, Answers, names_in, found_in, 
 use Rattle.store_model.specs.Steps.{graph_in_doubt, after_refusal, after_answer, after_reply}
 use Rattle.store_model.specs.Worlds.{IsOutOfReach}
 use Rattle.store_model.specs.Lawful.{IsOwn, IsLawfulTransaction, IsApart}
-use Rattle.store_model.proofs.Members.{in_append, append_right, in_filter, filter_in, each_in, each_from}
-use Rattle.store_model.proofs.Paths.{has_name_in, in_has_name, in_has_object}
+use Rattle.object_graph.proofs.Members.{in_append, append_right, in_filter, filter_in, each_in, each_from}
+use Rattle.object_graph.proofs.Paths.{has_name_in, in_has_name, in_has_object}
 use Rattle.store_model.proofs.Allowed.{when_none}
 use Rattle.store_model.specs.Lawful.{IsOrderly}
 use Rattle.store_model.specs.Worlds.{is_unfreed}

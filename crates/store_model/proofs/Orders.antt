@@ -7,7 +7,7 @@ use Rattle.object_graph.specs.NameParts.{NameParts}
 use Rattle.store_model.specs.Worlds.{World, Transaction, slots_of, starts, transaction}
 use Rattle.store_model.specs.Steps.{with_transaction}
 use Rattle.store_model.specs.Lawful.{IsPlaced, IsLawfulTransaction, IsApart}
-use Rattle.store_model.proofs.Members.{In, filter_in, each_in, each_from}
+use Rattle.object_graph.proofs.Members.{In, filter_in, each_in, each_from}
 use Rattle.store_model.proofs.Places.{filter_of_map}
 use Rattle.store_model.specs.Lawful.{IsOrderly}
 use Rattle.store_model.proofs.Lists.{filter_same}

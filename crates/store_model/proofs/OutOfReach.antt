@@ -5,7 +5,7 @@ use Rattle.object_graph.specs.Graphs.{has_object, IsReachedFrom}
 use Rattle.store_model.specs.Worlds.{World, Transaction, starts, view, IsReached, IsHeldBy}
 use Rattle.store_model.specs.Worlds.{IsOutOfReach}
 use Rattle.store_model.specs.Lawful.{IsLawfulTransaction}
-use Rattle.store_model.proofs.Members.{In, each_in, each_from}
+use Rattle.object_graph.proofs.Members.{In, each_in, each_from}
 use Rattle.store_model.proofs.Locks.{name_in_view}
 use Rattle.store_model.proofs.Reach.{IsSafeView, held_is_reached_or_own}
 use Rattle.store_model.proofs.Cuts.{safe_view, commit_keeps_unreached}

@@ -10,7 +10,7 @@ use Rattle.object_graph.specs.Graphs.{is_at, objects_at}
 use Rattle.object_graph.specs.Slots.{below}
 use Rattle.store_model.specs.Worlds.{World, Transaction, starts, view, with_writes, new_object}
 use Rattle.store_model.specs.Lawful.{IsOwn, IsLawfulTransaction, CountsUp, generations_at}
-use Rattle.store_model.proofs.Members.{In, in_filter, each_in}
+use Rattle.object_graph.proofs.Members.{In, in_filter, each_in}
 use Rattle.store_model.proofs.Lists.{filter_same}
 use Rattle.store_model.proofs.Reach.{name-with_writes}
 

@@ -9,8 +9,8 @@ use Rattle.object_graph.specs.Graphs.{has_object, has_name, is_to, refers, IsRea
 use Rattle.object_graph.specs.Slots.{slots_in}
 use Rattle.store_model.specs.Worlds.{World, Transaction, Opening, starts, view, is_freed, is_unfreed, is_old, IsHeldBy, IsLost}
 use Rattle.store_model.specs.Replies.{names_in, IsGarbage, MayFree}
-use Rattle.store_model.proofs.Members.{In, any_in, in_any, all_in, in_filter, in_map, each_from}
-use Rattle.store_model.proofs.Paths.{has_name_in, in_has_name, has_object_in, in_has_object, name_eq_refl, reached_more, is_closed, closed_path, path_first}
+use Rattle.object_graph.proofs.Members.{In, any_in, in_any, all_in, in_filter, in_map, each_from}
+use Rattle.object_graph.proofs.Paths.{has_name_in, in_has_name, has_object_in, in_has_object, name_eq_refl, reached_more, is_closed, closed_path, path_first}
 
 -- the object's name is in the set, or an object of a name in the set refers to it
 abbrev pub is_next : List Object → List NameParts → Object → Bool

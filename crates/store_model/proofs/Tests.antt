@@ -18,7 +18,7 @@ use Rattle.store_model.specs.Causes.{first_refusal, field_seen, number_seen, new
 use Rattle.store_model.specs.Replies.{AllowsReply, Answers, AnswersSweep, AnswersReopen, AnswersNew, MayFree, MayReopen, is_free, found_in, has_note, MayBeFound, names_in}
 use Rattle.store_model.specs.Steps.{next}
 use Rattle.store_model.specs.Histories.{IsLegal}
-use Rattle.store_model.proofs.Paths.{name_eq_same}
+use Rattle.object_graph.proofs.Paths.{name_eq_same}
 use Rattle.store_model.proofs.Rounds.{may_free, may_free_by_test}
 
 -- ---- refusals as two numbers

@@ -7,5 +7,4 @@ pub mod Lawful
 pub mod Images
 pub mod Limits
 pub mod Texts
-pub mod Members
 pub mod Examples

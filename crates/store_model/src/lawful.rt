@@ -7,7 +7,7 @@ ghost use Rattle.object_graph.specs.declared.calls.Call.TheVariants.{New, Commit
 ghost use Rattle.object_graph.specs.declared.calls.Reply.TheVariants.{Done, Made, Committed};
 ghost use Rattle.object_graph.specs.Graphs.{has_name, has_object, objects_at};
 ghost use Rattle.store_model.specs.Worlds.{World, Transaction, OpenedCut, Note, Event, IsLost, fresh_world, transaction, is_freed, IsReached, IsHeldBy};
-ghost use Rattle.store_model.specs.Members.{In};
+ghost use Rattle.object_graph.specs.Members.{In};
 ghost use Rattle.store_model.specs.Replies.{Allows, AllowsReply};
 ghost use Rattle.store_model.specs.Steps.{next, after_reply};
 ghost use Rattle.store_model.specs.Histories.{after, IsLegal};

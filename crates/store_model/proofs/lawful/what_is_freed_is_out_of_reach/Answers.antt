@@ -1,6 +1,6 @@
 use Rattle.store_model.specs.Worlds.{IsOutOfReach}
-use Rattle.store_model.proofs.Members.{each_in}
-use Rattle.store_model.proofs.Paths.{has_name_in}
+use Rattle.object_graph.proofs.Members.{each_in}
+use Rattle.object_graph.proofs.Paths.{has_name_in}
 use Rattle.store_model.proofs.lawful.what_is_freed_is_out_of_reach.Goals as goal
 
 pub returns : goal.returns
