@@ -2,6 +2,8 @@
 //! (FORMATS.md, "Commands"). The name `-` stands for a disk in memory, and is the only one yet.
 #![tactic(auto)]
 
+ghost use Rattle.std.specs.Prelude.{◌≡◌, ◌<◌, ◌↔◌, codes, IfOk, IsTrue, vec_len};
+
 use disk_trait::{MemDisk, StdSink, StdSource};
 use std::io::ErrorKind;
 use std::process::ExitCode;
@@ -26,7 +28,9 @@ fn main(rt: HostRuntime) -> ExitCode {
 }
 
 /// The name of the store's file, and the words after it, of which there is one at least.
-fn command_line<R: Env + AllocGlobal>(rt: &R) -> Result<(String, Vec<String>), Status> {
+fn command_line<R: Env + AllocGlobal>(rt: &R) -> Result<(String, Vec<String>), Status>
+    ensures { IfOk result (λ line. 0 < vec_len line.1) }
+{
     let mut args = match env::args(rt) {
         Ok(args) => args,
         Err(error) if error.kind() == ErrorKind::OutOfMemory => return Err(Status::Memory),
@@ -52,7 +56,7 @@ fn run_command<R: AllocGlobal + Input + Print + Threads>(
     file: &String,
     words: &[String],
 ) -> Status {
-    if file.as_str() != "-" {
+    if !is_memory(file) {
         return Status::Usage;
     }
     let alloc = rt.alloc();
@@ -63,4 +67,11 @@ fn run_command<R: AllocGlobal + Input + Print + Threads>(
     let mut sink = StdSink::on(io::writer(rt));
     let (status, _disk) = top(rt, alloc, words, &mut source, &mut sink, disk);
     status
+}
+
+/// Whether the name of the file stands for the disk in memory.
+fn is_memory(file: &str) -> bool
+    ensures { IsTrue result ↔ (file.now ≡ codes "-") }
+{
+    file == "-"
 }
