@@ -1,18 +1,18 @@
 -- What is spelled is read again.
-use Rattle.std.proofs.Common.{◌≡◌, ℕ, zero, suc, ◌+◌, ◌-◌, ◌*◌, ◌/◌, ◌%◌, ◌^◌, ◌<◌, ◌≤◌, Bool, true, false, not, ◌&&◌, ◌||◌, ◌==◌, nat_lt, nat_le, List, [], ◌∷◌, ◌++◌, Option, Some, None, length, take, drop, map, refl, sym, ◌∙◌, ap, subst, arith, if◌then◌else◌, get_or, append_assoc, Ok}
-use Rattle.std.specs.Int.{w16, w32, w64, to_be_bytes, from_be_bytes}
+use Rattle.std.proofs.Common.{◌≡◌, ℕ, zero, suc, ◌+◌, ◌*◌, ◌/◌, ◌%◌, ◌^◌, ◌<◌, ◌≤◌, Bool, true, false, ◌==◌, nat_lt, nat_le, List, [], ◌∷◌, ◌++◌, Option, Some, None, length, take, drop, map, refl, sym, ◌∙◌, ap, subst, arith, get_or, append_assoc, Ok}
+use Rattle.std.specs.Int.{w16, w32, w64}
 use Rattle.std.specs.List.{flat_map, AllByRecursion}
 use Rattle.std.proofs.Math.Seq.{drop-append-add, take-append_seam}
 use Rattle.std.proofs.lemmas.List.{take_more, take_all, map-append, length-append}
 use Rattle.std.proofs.lemmas.Nat.{from_be_bytes-to_be_bytes_2, from_be_bytes-to_be_bytes_4, from_be_bytes-to_be_bytes_8}
-use Rattle.std.proofs.lemmas.Bool.{lt-ltb, le-leb, eq-eqb, ne_eqb, and_from, or_right, or_left}
+use Rattle.std.proofs.lemmas.Bool.{lt-ltb, le-leb, ne_eqb, and_from, or_right}
 use Rattle.object_graph.specs.NameParts.{NameParts, IsName}
 use Rattle.object_graph.specs.SlotParts.{SlotParts}
 use Rattle.object_graph.specs.Slots.{below}
 use Rattle.page_image.specs.Sizes.{page_limit}
-use Rattle.page_image.specs.Slots.{IsSlot, IsWhole, IsReference, fresh_slot}
+use Rattle.page_image.specs.Slots.{IsWhole, IsReference, fresh_slot}
 use Rattle.page_image.specs.Pages.{PageParts, IsPage}
-use Rattle.page_image.specs.Spelling.{reference_number, state_byte, slot_bytes, header_bytes, page_bytes}
+use Rattle.page_image.specs.Spelling.{reference_number, slot_bytes, header_bytes, page_bytes}
 use Rattle.page_image.specs.Fields.{first_wrong, header_fields, slot_fields, slot_of, number_at, is_reference, is_name_number, reference_of, name_of, slot_piece, slot_start, fields_of_slot, page_at}
 use Rattle.page_image.proofs.Tables.{one_more_right, slot_right-moved, page_at-right}
 

@@ -1,13 +1,12 @@
 -- What the bytes of a slot say where its fields are right.
-use Rattle.std.proofs.Common.{◌≡◌, ℕ, ◌+◌, ◌*◌, ◌/◌, ◌%◌, ◌<◌, ◌≤◌, Bool, true, false, not, ◌&&◌, ◌||◌, ◌==◌, nat_lt, nat_le, List, [], ◌∷◌, Option, Some, None, refl, sym, ◌∙◌, ap, subst, arith, replicate, length, ◌⊎◌, inl, inr, if◌then◌else◌}
-use Rattle.std.proofs.lemmas.Bool.{and_parts, or_cases, cases_Bool, not-true, eqb-true, leb-true, ltb-true, eq-eqb, or_left, or_right, both_ways}
+use Rattle.std.proofs.Common.{◌≡◌, ℕ, ◌/◌, ◌%◌, ◌<◌, Bool, true, false, not, ◌||◌, ◌==◌, nat_lt, nat_le, List, [], ◌∷◌, Some, None, refl, arith, length, inl, inr, if◌then◌else◌}
+use Rattle.std.proofs.lemmas.Bool.{and_parts, or_cases, eqb-true, leb-true, ltb-true, or_left, both_ways}
 use Rattle.std.specs.Prelude.{slice_get}
 use Rattle.std.specs.Int.{w16, w32, w64}
-use Rattle.object_graph.specs.NameParts.{NameParts, IsName}
-use Rattle.object_graph.specs.SlotParts.{SlotParts}
-use Rattle.page_image.specs.Sizes.{refs_per_object, page_limit}
+use Rattle.object_graph.specs.NameParts.{IsName}
+use Rattle.page_image.specs.Sizes.{page_limit}
 use Rattle.page_image.specs.Slots.{IsSlot, IsReference}
-use Rattle.page_image.specs.Fields.{Field, first_wrong, slot_fields, header_fields, slot_of, is_used, is_reference, is_name_number, reference_of, name_of, number_at, byte_at}
+use Rattle.page_image.specs.Fields.{Field, first_wrong, slot_fields, header_fields, is_used, is_reference, is_name_number, reference_of, name_of, number_at, byte_at}
 
 -- every field of a table is right
 abbrev pub AreRight : List Field → Type 0

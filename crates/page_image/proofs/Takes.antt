@@ -1,5 +1,5 @@
 -- What is read is spelled so.
-use Rattle.std.proofs.Common.{◌≡◌, ℕ, zero, suc, ◌+◌, ◌-◌, ◌*◌, ◌/◌, ◌%◌, ◌^◌, ◌<◌, ◌≤◌, ◌⊎◌, inl, inr, min, Bool, true, false, ◌==◌, nat_le, nat_lt, List, [], ◌∷◌, ◌++◌, Option, Some, None, length, take, drop, map, replicate, refl, sym, ◌∙◌, ap, subst, arith, if◌then◌else◌, get_or, append_assoc}
+use Rattle.std.proofs.Common.{◌≡◌, ℕ, zero, suc, ◌+◌, ◌*◌, ◌/◌, ◌%◌, ◌<◌, ◌≤◌, inl, inr, Bool, true, false, ◌==◌, nat_le, nat_lt, List, [], ◌∷◌, ◌++◌, Some, None, length, take, drop, map, replicate, refl, sym, ◌∙◌, ap, subst, arith, if◌then◌else◌, get_or}
 use Rattle.std.specs.Int.{w16, w32, w64, to_be_bytes}
 use Rattle.std.specs.List.{flat_map}
 use Rattle.std.proofs.Math.Seq.{take-add, drop-drop}
@@ -9,15 +9,10 @@ use Rattle.std.proofs.lemmas.Bool.{eqb-true, leb-true, cases_lt}
 use Rattle.std.proofs.lemmas.List.{take_more, take_all, append-nil, map-append, length-take-le, length-drop, get_or-take, get_or-drop, get_or_past, replicate-append-replicate}
 use Rattle.object_graph.specs.Slots.{below}
 use Rattle.object_graph.specs.SlotParts.{SlotParts}
-use Rattle.page_image.specs.Spelling.{reference_number, state_byte, slot_bytes, header_bytes, page_bytes}
+use Rattle.page_image.specs.Spelling.{reference_number, state_byte, slot_bytes, header_bytes, page_bytes, AreBytes}
 use Rattle.page_image.specs.Fields.{Field, first_wrong, header_fields, slot_fields, slot_of, slot_piece, slot_start, number_at, byte_at, reference_of, zeros, page_of, fields_of_slot}
 use Rattle.page_image.proofs.Tables.{zeros-flat, zero_field, right_at, slot_right-back, first_wrong-back}
 use Rattle.page_image.proofs.Right.{all_right, slot_right}
-use Rattle.page_image.proofs.Writes.{onward}
-
--- each number is a byte
-abbrev pub AreBytes : List ℕ → Type 0
-AreBytes bytes = (i : ℕ) → get_or bytes i 0 < 256
 
 -- so many bytes from a place on
 abbrev part : List ℕ → ℕ → ℕ → List ℕ

@@ -3,10 +3,12 @@
 
 mod decode;
 mod encode;
+mod laws;
 mod page;
 mod slot;
 
 pub use decode::BadPage;
+pub use laws::{each_page_has_one_spelling, each_page_is_read_from_its_spelling};
 pub use page::{Page, PageFull};
 
 #[cfg(test)]

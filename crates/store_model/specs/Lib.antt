@@ -8,3 +8,4 @@ pub mod Images
 pub mod Limits
 pub mod Texts
 pub mod Examples
+pub mod Lanes

@@ -1,4 +1,4 @@
-use Rattle.std.proofs.Common.{◌≡◌, ◌==◌, true, sym, subst}
+use Rattle.std.proofs.Common.{◌≡◌, true, sym, subst}
 use Rattle.page_image.specs.Fields.{is_reference, is_used}
 use Rattle.page_image.proofs.Right.{slot_right, slot_fits, reference-widens}
 use Rattle.page_image.proofs.decode.read_slot.Goals as goal

@@ -1,4 +1,4 @@
-use Rattle.std.proofs.Common.{◌≡◌, ℕ, ◌+◌, ◌++◌, [], ◌∷◌, None, map, take, length, sym, ap, subst, arith, ◌∙◌}
+use Rattle.std.proofs.Common.{◌≡◌, ℕ, ◌++◌, [], ◌∷◌, map, sym, ap, arith, ◌∙◌}
 use Rattle.std.proofs.lemmas.List.{take_more_set, length-set, take_all, map-append}
 use Rattle.object_graph.specs.Slots.{below}
 use Rattle.page_image.specs.Fields.{first_wrong, fields_of_slot, slot_fields, slot_of, slot_piece}

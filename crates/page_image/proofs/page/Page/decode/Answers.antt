@@ -1,6 +1,5 @@
 use Rattle.std.proofs.Common.{◌<◌, ◌≡◌, Ok, sym, ap, subst, ◌∙◌}
 use Rattle.page_image.specs.Sizes.{page_limit}
-use Rattle.page_image.specs.Pages.{PageParts}
 use Rattle.page_image.proofs.Tables.{page_at-header, page_at-slots, page_at-right}
 use Rattle.page_image.specs.Fields.{page_at}
 use Rattle.page_image.specs.Spelling.{page_bytes}

@@ -1,4 +1,4 @@
-use Rattle.std.proofs.Common.{◌≡◌, ◌++◌, Ok, length, sym, ap, subst, ◌∙◌}
+use Rattle.std.proofs.Common.{◌++◌, Ok, ap, ◌∙◌}
 use Rattle.page_image.specs.Fields.{page_at}
 use Rattle.page_image.specs.Spelling.{slot_bytes}
 use Rattle.std.specs.List.{flat_map}
