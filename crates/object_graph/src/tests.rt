@@ -93,6 +93,30 @@ fn a_cycle_with_a_shared_part_is_reached(rt: HostRuntime) -> Result<(), Fail> {
     Ok(())
 }
 
+/// The name at a place of a chain, twenty to a page.
+fn link_at(place: u32) -> Name
+    requires { place < 400 }
+{
+    Name::at(1 + place / 20, (place % 20) as u16, 1)
+}
+
+#[test]
+fn a_chain_of_three_hundred_is_reached(rt: HostRuntime) -> Result<(), Fail> {
+    let mut graph = Graph::new(rt.alloc())?;
+    let mut last = ROOT;
+    for place in 0..300 {
+        let name = link_at(place);
+        assert!(rt; graph.add(name, 0)?);
+        link(&mut graph, last, 0, Some(name));
+        last = name;
+    }
+    assert_eq!(rt; reached(rt.alloc(), &graph, &[ROOT])?.len(), 301);
+    assert_eq!(rt; reached(rt.alloc(), &graph, &[link_at(100)])?.len(), 200);
+    link(&mut graph, link_at(149), 0, None);
+    assert_eq!(rt; reached(rt.alloc(), &graph, &[ROOT])?.len(), 151);
+    Ok(())
+}
+
 /// Two ticks from a blank ledger.
 fn two_steps<L: Ledger>(blank: Blank)
     requires name { blank.name ≡ L.name }
