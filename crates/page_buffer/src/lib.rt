@@ -1,0 +1,8 @@
+//! The frames of the pages: of each its current image, and the committed one.
+#![tactic(auto)]
+
+mod buffer;
+mod frame;
+
+pub use buffer::Buffer;
+pub use frame::Frame;
