@@ -1,6 +1,5 @@
 -- Pages and frames after some slots were freed.
-use Rattle.std.proofs.Common.{◌≡◌, ℕ, ◌+◌, ◌^◌, ◌<◌, ◌≤◌, ◌⊎◌, inl, inr, Bool, true, false, List, length, map, slice_index_or, slice_set, refl, sym, ◌∙◌, ap, subst, arith, if◌then◌else◌, get_or}
-use Rattle.std.specs.List.{range_with_len}
+use Rattle.std.proofs.Common.{◌≡◌, ℕ, ◌^◌, ◌<◌, ◌≤◌, ◌⊎◌, inl, inr, Bool, true, false, List, length, slice_index_or, slice_set, refl, sym, ◌∙◌, ap, subst, arith, if◌then◌else◌}
 use Rattle.std.proofs.lemmas.Bool.{cases_lt}
 use Rattle.std.proofs.lemmas.List.{ext_get_or, get_or_past, length-set}
 use Rattle.std.proofs.lemmas.List.Elements.{All-set}
@@ -23,6 +22,7 @@ slot_at-freed_page slots page slot = by (cases_lt slot (length page.slots))
   where
     change : ℕ → SlotParts
     change s = slot_freed slots s (slot_at page s)
+
     by : (slot < length page.slots) ⊎ (length page.slots ≤ slot) → slot_at (freed_page slots page) slot ≡ change slot
     by (inl among) = get_or-map-range_with_len change 0 (length page.slots) slot slot fresh_slot among (omega arith)
     by (inr past) =
@@ -36,6 +36,7 @@ is_freed_page slots page new number count each = λ i. record { number = number 
   where
     change : ℕ → SlotParts
     change s = slot_freed slots s (slot_at page s)
+
     same : new.slots ≡ (freed_page slots page).slots
     same = ext_get_or fresh_slot new.slots (freed_page slots page).slots (count ∙ sym (length-map-range_with_len change 0 (length page.slots)))
         (λ slot among. each slot ∙ sym (slot_at-freed_page slots page slot))

@@ -33,7 +33,8 @@ impl Model for Buffer {
 }
 
 impl Buffer {
-    /// A buffer of these pages, all committed. Without memory for it the pages come back.
+    /// A buffer of these pages, all committed, as many as `count` can tell. Without memory for it the
+    /// pages come back.
     pub fn new(alloc: Global, pages: Vec<Page>) -> Result<Buffer, (Vec<Page>, Memory)>
         requires { length pages.items < 2 ^ 32 }
         ensures ok { IfOk result (λ buffer. buffer ≡ map clean_frame pages.items) }
@@ -109,7 +110,11 @@ impl Buffer {
     /// Takes the least slot of the current image that is free and has a generation to spare, for a
     /// new object with number 0 and no references. It is refused exactly where there is no such
     /// slot; then no frame changes, so a clean one stays clean.
-    pub fn take_slot<L: Ledger>(&mut self, page: u32, steps: &mut Steps<L>) -> Result<Name, PageFull>
+    pub fn take_slot<L: Ledger>(
+        &mut self,
+        page: u32,
+        steps: &mut Steps<L>,
+    ) -> Result<Name, PageFull>
         requires { page < length self.old }
         ensures next { IfOk result (λ name. IsNextName (frame_at self.old page).current name) }
         ensures taken { IfOk result (λ name. let f = frame_at self.old page in self.new ≡ with_frame self.old page (written f (with_slot f.current name.slot taken))) }
@@ -117,7 +122,7 @@ impl Buffer {
         ensures unchanged { OnErr result (self.new ≡ self.old) }
         ensures step { steps.new ≡ steps.old + 1 }
     {
-        steps.tick();
+        steps.tick(); // A full page is a step too.
         let frame = &mut self.frames[page as usize];
         let name = frame.current.take_slot()?;
         frame.dirty = true;
@@ -144,8 +149,8 @@ impl Buffer {
         frame.dirty = false;
     }
 
-    /// Frees slots in both images, whoever writes the current one. Whether the frame is dirty stays as it was.
-    #[tactic(auto, using(crate::proofs::Frees::frames_freed))]
+    /// Frees slots in both images. The frame stays clean, or dirty, as it was: this is no write of the
+    /// transaction that may have the page.
     pub fn free<L: Ledger>(&mut self, page: u32, slots: SlotSet, steps: &mut Steps<L>)
         requires page { page < length self.old }
         requires used { (slot : ℕ) → IsTrue (has_slot slots slot) → (slot_at (frame_at self.old page).before slot).in_use ≡ true }

@@ -8,8 +8,8 @@ use object_graph::SlotSet;
 use page_image::Page;
 
 /// The images of a page: `current` with what an open transaction wrote, and `before`, the committed
-/// one. It is `dirty` from the first write until that is settled or reverted; while it isn't, both
-/// images are equal (ARCHITECTURE.md, "Frames").
+/// one. It is `dirty` from the first write until that is settled or reverted; a clean frame of a
+/// buffer has equal images (ARCHITECTURE.md, "Frames").
 #[derive(Clone, Copy, Debug, PartialEq, Eq)]
 pub struct Frame {
     pub current: Page,

@@ -3,6 +3,8 @@
 
 mod buffer;
 mod frame;
+#[cfg(test)]
+mod tests;
 
 pub use buffer::Buffer;
 pub use frame::Frame;

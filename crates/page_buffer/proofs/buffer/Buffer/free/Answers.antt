@@ -1,4 +1,3 @@
-use Rattle.std.proofs.Common.{◌≡◌}
 use Rattle.page_buffer.proofs.Frees.{frames_freed}
 use Rattle.page_buffer.proofs.buffer.Buffer.free.Goals as goal
 
