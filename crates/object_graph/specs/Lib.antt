@@ -4,3 +4,4 @@ pub mod Slots
 pub mod SlotParts
 pub mod Graphs
 pub mod Walks
+pub mod Members

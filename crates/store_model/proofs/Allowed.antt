@@ -12,7 +12,7 @@ use Rattle.object_graph.specs.Slots.{least, least_with}
 use Rattle.store_model.specs.Worlds.{World, Transaction, Note, assign, find_transaction, transaction}
 use Rattle.store_model.specs.Causes.{first_met, first_refusal, when, holder, busy_to_write, not_open, stranger, too_wide, broken, has_page}
 use Rattle.store_model.specs.Steps.{with_page, writes}
-use Rattle.store_model.proofs.Members.{In, filter_in, map_in}
+use Rattle.object_graph.proofs.Members.{In, filter_in, map_in}
 use Rattle.store_model.specs.Lawful.{IsApart}
 
 -- where no cause is met, the first isn't, nor any after it

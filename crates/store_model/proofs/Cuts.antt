@@ -1,19 +1,18 @@
 -- What was out of reach stays so.
-use Rattle.std.proofs.Common.{◌≡◌, ℕ, zero, suc, ◌+◌, ◌<◌, true, false, ◌&&◌, ◌==◌, not, List, [], ◌∷◌, map, length, Some, refl, sym, subst, ap, ◌∙◌, ◌⊎◌, inl, inr, arith}
+use Rattle.std.proofs.Common.{◌≡◌, ℕ, zero, suc, ◌+◌, ◌<◌, true, false, ◌&&◌, ◌==◌, List, [], ◌∷◌, map, length, Some, refl, sym, subst, ap, ◌∙◌, ◌⊎◌, inl, inr, arith}
 use Rattle.std.specs.List.{list_any}
 use Rattle.std.proofs.lemmas.Bool.{and_parts, and_from, cases_Bool, eq-eqb}
 use Rattle.object_graph.specs.NameParts.{NameParts}
 use Rattle.object_graph.specs.Names.{name_eq}
 use Rattle.object_graph.specs.declared.names.Object.{Object}
-use Rattle.object_graph.specs.Graphs.{has_object, has_name, is_to, is_at, refers, objects_at, IsReachedFrom}
+use Rattle.object_graph.specs.Graphs.{has_object, is_to, is_at, refers, objects_at, IsReachedFrom}
 use Rattle.object_graph.specs.Slots.{below}
-use Rattle.store_model.specs.Worlds.{World, Transaction, OpenedCut, starts, view, is_freed, is_old, IsReached, IsHeldBy, IsLost, new_object, with_writes, fields_of}
+use Rattle.store_model.specs.Worlds.{World, Transaction, starts, view, IsReached, new_object, with_writes, fields_of}
 use Rattle.store_model.specs.Causes.{name_at}
-use Rattle.store_model.specs.Steps.{opening_of}
-use Rattle.store_model.specs.Lawful.{IsKnownWrite, IsOwn, IsLawfulTransaction, CountsUp, generations_at, IsOutOfReach, AreLostOutOfReach, IsLawfulCut, IsLawful}
-use Rattle.store_model.proofs.Members.{In, any_in, in_any, filter_in, in_map, map_in, in_append, each_in, each_from}
-use Rattle.store_model.proofs.Paths.{has_name_in, has_object_in, reached_more, is_to_same, name_eq_same, name_eq_refl}
-use Rattle.store_model.proofs.Reach.{IsSafeView, IsOwnOrReached, held_is_reached_or_own, commit_adds_own, view_object, name-with_writes, refs-with_writes, known_name, target_known, none_only}
+use Rattle.store_model.specs.Lawful.{IsKnownWrite, IsOwn, IsLawfulTransaction, CountsUp, generations_at}
+use Rattle.object_graph.proofs.Members.{In, any_in, in_any, filter_in, in_map, map_in, in_append, each_in}
+use Rattle.object_graph.proofs.Paths.{has_name_in, has_object_in, is_to_same, name_eq_same, name_eq_refl}
+use Rattle.store_model.proofs.Reach.{IsSafeView, IsOwnOrReached, commit_adds_own, view_object, name-with_writes, refs-with_writes, known_name, target_known, none_only}
 
 pub below_bound : (n j : ℕ) → In j (below n) → j < n
 below_bound zero j m = absurd m
@@ -53,45 +52,11 @@ safe_view w t counts lawful = record {
       next_name_is_new w name counts (each_in (IsOwn w.graph w.freed t) t.own name lawful.own (has_name_in t.own name own)).next;
 }
 
--- a committed name that is out of reach is held by nobody
-pub unreached_is_unheld : (w : World) (name : NameParts) → IsLawful w → has_object w.graph name ≡ true → ¬ IsReached w name → IsOutOfReach w name
-unreached_is_unheld w name lawful there unreached = (
-  unreached,
-  each_from (λ t. ¬ IsHeldBy w t name) w.transactions (λ t m held.
-      let safe = safe_view w t lawful.counted (each_in (IsLawfulTransaction w.graph w.freed (starts w)) w.transactions t lawful.transactions m) in
-      elim (held_is_reached_or_own w t name safe held) [
-        | inl own ↦ let f = safe.own_are_new name own in let b : has_object w.graph name ≡ true = there in cc
-        | inr reached ↦ unreached reached
-      ]),
-)
-
 -- what refers is an object of the graph
 pub refers_from : (graph : List Object) (name target : NameParts) → refers graph name target ≡ true → has_object graph name ≡ true
 refers_from graph name target r =
     let a = any_in (λ o. name_eq o.name name && list_any (is_to target) o.refs) graph r in
     in_any (λ o. name_eq o.name name) graph a.0 a.1 (and_parts (name_eq a.0.name name) (list_any (is_to target) a.0.refs) a.2).0
-
--- a cut that opens is lawful
-pub opened_cut_is_lawful : (w : World) (cut : OpenedCut) → IsLawful w → cut.opening ≡ opening_of w → AreLostOutOfReach w cut × IsLawfulCut w.graph w.freed cut
-opened_cut_is_lawful w cut lawful is = (
-  (λ name lost. unreached_is_unheld w name lawful (old_there name lost.old) (now_unreached name lost)),
-  record {
-    kept = λ name target not_lost lost unfreed refers_to.
-        let target_there = old_there target lost.old in
-        not_lost (record {
-          old = subst (λ o. (has_object o.graph name && not (has_name o.freed name)) ≡ true) (sym is) (and_from (has_object w.graph name) (not (has_name w.freed name)) (refers_from w.graph name target refers_to) unfreed);
-          unreached = λ reached. now_unreached target lost
-              (reached_more w.graph (starts w) name target (subst (λ o. IsReachedFrom o.graph o.starts name) is reached) refers_to target_there);
-        });
-    old = old_there;
-  },
-)
-  where
-    old_there : (name : NameParts) → is_old cut name ≡ true → has_object w.graph name ≡ true
-    old_there name h = (and_parts (has_object w.graph name) (not (has_name w.freed name)) (subst (λ o. (has_object o.graph name && not (has_name o.freed name)) ≡ true) is h)).0
-
-    now_unreached : (name : NameParts) → IsLost cut name → ¬ IsReached w name
-    now_unreached name lost = λ reached. lost.unreached (subst (λ o. IsReachedFrom o.graph o.starts name) (sym is) reached)
 
 -- a commit leaves out of reach what was out of reach
 pub commit_keeps_unreached : (w : World) (t : Transaction) (name : NameParts) → IsSafeView w t → has_object w.graph name ≡ true
@@ -129,16 +94,4 @@ view_refers w t name target safe r =
       | inr wrote ↦
           inr (known_name w t target safe
           (target_known t wrote.0 target (each_in (IsKnownWrite t) t.writes wrote.0 safe.writes wrote.1) wrote.2))
-    ]
-
--- a commit leaves a cut lawful: nothing that wasn't lost refers to what was
-pub commit_keeps_kept : (w : World) (t : Transaction) (cut : OpenedCut) (name target : NameParts) → IsSafeView w t → AreLostOutOfReach w cut → IsLawfulCut w.graph w.freed cut
-    → ¬ IsLost cut name → IsLost cut target → not (is_freed w name) ≡ true → ¬ (refers (view w t) name target ≡ true)
-commit_keeps_kept w t cut name target safe out lawful not_lost lost unfreed = λ r.
-    elim (view_refers w t name target safe r) [
-      | inl before ↦ lawful.kept name target not_lost lost unfreed before
-      | inr known ↦ elim known [
-        | inl own ↦ let f = safe.own_are_new target own in let b : has_object w.graph target ≡ true = lawful.old target lost.old in cc
-        | inr reached ↦ (out target lost).0 reached
-      ]
     ]

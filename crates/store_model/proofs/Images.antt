@@ -1,19 +1,17 @@
 -- What a commit leaves of the images of pages.
-use Rattle.std.proofs.Common.{◌≡◌, ℕ, Bool, true, false, ◌==◌, not, cond, List, [], ◌∷◌, ◌++◌, map, length, None, refl, sym, subst, ap, ◌∙◌, inl, inr, append-nil}
+use Rattle.std.proofs.Common.{◌≡◌, ℕ, Bool, true, false, ◌==◌, cond, List, [], ◌∷◌, ◌++◌, map, length, refl, sym, subst, ap, ◌∙◌, inl, inr, append-nil}
 use Rattle.std.specs.List.{filter, AllByRecursion}
 use Rattle.std.proofs.lemmas.Bool.{and_parts, cases_Bool, eqb-true}
 use Rattle.std.proofs.lemmas.List.Elements.{filter-append}
 use Rattle.object_graph.specs.NameParts.{NameParts}
 use Rattle.object_graph.specs.declared.names.Object.{Object}
-use Rattle.object_graph.specs.Graphs.{is_at, objects_at, has_name}
-use Rattle.store_model.specs.Worlds.{World, Transaction, view, with_writes, new_object, fresh_world}
+use Rattle.object_graph.specs.Graphs.{is_at, objects_at}
+use Rattle.store_model.specs.Worlds.{World, Transaction, view, with_writes, new_object, is_unfreed}
 use Rattle.store_model.specs.Images.{shown_slot, slot_with}
 use Rattle.store_model.specs.Causes.{has_page}
-use Rattle.store_model.specs.Histories.{after}
 use Rattle.store_model.specs.Lawful.{IsKnownWrite}
 use Rattle.store_model.proofs.Locks.{writes_away}
 use Rattle.store_model.proofs.Reach.{name-with_writes}
-use Rattle.store_model.proofs.Rows.{row_chain}
 
 pub cond_false : {A : Type 0} (b : Bool) (x y : A) → b ≡ false → cond b x y ≡ y
 cond_false b x y e = rw e refl
@@ -54,13 +52,8 @@ pub commit_keeps_slot : (w : World) (t : Transaction) (fields page slot : ℕ) �
     → AllByRecursion (λ n. has_page t.pages_written n.page ≡ true) t.own → has_page t.pages_written page ≡ false
     → shown_slot fields (view w t) w.freed page slot ≡ shown_slot fields w.graph w.freed page slot
 commit_keeps_slot w t fields page slot known own away =
-    ap (λ os. slot_with fields (filter (λ o. not (has_name w.freed o.name)) os) (length os))
+    ap (λ os. slot_with fields (filter (is_unfreed w.freed) os) (length os))
     (objects_away t (w.graph ++ map (new_object w) t.own) page slot known away
     ∙ (filter-append (λ o. is_at page slot o.name) w.graph (map (new_object w) t.own)
     ∙ (ap (λ os. objects_at w.graph page slot ++ os) (none_new w t t.own page slot own away)
     ∙ append-nil (objects_at w.graph page slot))))
-
--- after the worked script of a chain, page 1 has three free slots with stored generation 1, the first of them taken in view alone
-pub chain_image : shown_slot 4 (after (fresh_world 2) row_chain).graph (after (fresh_world 2) row_chain).freed 1 2
-    ≡ record { in_use = false; generation = 1; number = 0; refs = None ∷ None ∷ None ∷ None ∷ [] }
-chain_image = refl

@@ -9,8 +9,8 @@ use Rattle.object_graph.specs.Graphs.{has_object, has_name, is_to, refers}
 use Rattle.store_model.specs.Worlds.{World, Transaction, Write, link, assign, view, with_writes, written_by, new_object}
 use Rattle.store_model.specs.Causes.{has_page}
 use Rattle.store_model.specs.Lawful.{IsKnownWrite, IsCoveredPath, IsApart}
-use Rattle.store_model.proofs.Members.{In, any_in, in_any, map_in, append_left}
-use Rattle.store_model.proofs.Paths.{name_eq_same, name_eq_refl, has_object_in}
+use Rattle.object_graph.proofs.Members.{In, any_in, in_any, map_in, append_left}
+use Rattle.object_graph.proofs.Paths.{name_eq_same, name_eq_refl, has_object_in}
 use Rattle.store_model.proofs.Reach.{name-with_writes}
 
 -- each write is to an object on a page that the transaction wrote

@@ -10,7 +10,8 @@ use Rattle.object_graph.specs.Graphs.{is_at, objects_at}
 use Rattle.object_graph.specs.Slots.{below}
 use Rattle.store_model.specs.Worlds.{World, Transaction, starts, view, with_writes, new_object}
 use Rattle.store_model.specs.Lawful.{IsOwn, IsLawfulTransaction, CountsUp, generations_at}
-use Rattle.store_model.proofs.Members.{In, in_filter, each_in}
+use Rattle.object_graph.proofs.Members.{In, in_filter, each_in}
+use Rattle.store_model.proofs.Lists.{filter_same}
 use Rattle.store_model.proofs.Reach.{name-with_writes}
 
 pub filter_of_map : {A B : Type 0} (f : A → B) (p : B → Bool) (xs : List A) → filter p (map f xs) ≡ map f (filter (λ x. p (f x)) xs)
@@ -21,6 +22,11 @@ filter_of_map f p (x ∷ xs) = one f p x xs (filter_of_map f p xs) (p (f x))
         → (b : Bool) → cond b (f x ∷ filter p (map f xs)) (filter p (map f xs)) ≡ map f (cond b (x ∷ filter (λ x. p (f x)) xs) (filter (λ x. p (f x)) xs))
     one f p x xs h true = ap (λ ys. f x ∷ ys) h
     one f p x xs h false = h
+
+pub objects_at-map : (f : Object → Object) (os : List Object) (page slot : ℕ) → ((o : Object) → (f o).name ≡ o.name) → objects_at (map f os) page slot ≡ map f (objects_at os page slot)
+objects_at-map f os page slot h =
+    filter_of_map f (λ (o : Object). is_at page slot o.name) os
+    ∙ ap (map f) (filter_same (λ (o : Object). is_at page slot (f o).name) (λ (o : Object). is_at page slot o.name) os (λ o. ap (is_at page slot) (h o)))
 
 pub map_of_map : {A B C : Type 0} (f : A → B) (g : B → C) (xs : List A) → map g (map f xs) ≡ map (λ x. g (f x)) xs
 map_of_map f g [] = refl

@@ -10,8 +10,8 @@ use Rattle.object_graph.specs.Graphs.{has_object, has_name, is_to, refers, IsPat
 use Rattle.store_model.specs.Worlds.{World, Transaction, Write, link, assign, starts, view, with_writes, written_by, new_object, fields_of, IsReached, IsHeldBy}
 use Rattle.store_model.specs.Causes.{has_page}
 use Rattle.store_model.specs.Lawful.{IsKnownWrite, IsCovered, IsCoveredPath}
-use Rattle.store_model.proofs.Members.{In, any_in, in_any, in_map, in_append, each_in}
-use Rattle.store_model.proofs.Paths.{has_name_in, in_has_name, has_object_in, in_has_object, name_eq_same, name_eq_refl, is_to_same, reached_more, path_first}
+use Rattle.object_graph.proofs.Members.{In, any_in, in_any, in_map, in_append, each_in}
+use Rattle.object_graph.proofs.Paths.{has_name_in, in_has_name, has_object_in, in_has_object, name_eq_same, name_eq_refl, is_to_same, reached_more, path_first}
 
 -- ---- an object under writes
 

@@ -1,16 +1,16 @@
 -- A test that finds what is reached, and by it a test of sweeps.
-use Rattle.std.proofs.Common.{◌≡◌, ℕ, zero, suc, Bool, true, false, ◌&&◌, ◌||◌, ◌==◌, not, List, [], ◌∷◌, map, length, refl, sym, subst, inl, inr}
+use Rattle.std.proofs.Common.{◌≡◌, ℕ, zero, suc, Bool, true, false, ◌&&◌, ◌||◌, ◌==◌, not, List, [], map, length, refl, sym, subst, inl, inr}
 use Rattle.std.specs.List.{list_any, list_all, filter}
 use Rattle.std.proofs.lemmas.Bool.{and_parts, and_from, or_cases, eq-eqb, not-true}
 use Rattle.object_graph.specs.NameParts.{NameParts}
 use Rattle.object_graph.specs.Names.{name_eq}
 use Rattle.object_graph.specs.declared.names.Object.{Object}
-use Rattle.object_graph.specs.Graphs.{has_object, has_name, is_to, refers, IsPath, IsReachedFrom, objects_at}
+use Rattle.object_graph.specs.Graphs.{has_object, has_name, is_to, refers, IsReachedFrom, objects_at}
 use Rattle.object_graph.specs.Slots.{slots_in}
-use Rattle.store_model.specs.Worlds.{World, Transaction, OpenedCut, starts, view, is_freed, is_old, IsHeldBy, IsLost}
+use Rattle.store_model.specs.Worlds.{World, Transaction, Opening, starts, view, is_freed, is_unfreed, is_old, IsHeldBy, IsLost}
 use Rattle.store_model.specs.Replies.{names_in, IsGarbage, MayFree}
-use Rattle.store_model.proofs.Members.{In, any_in, in_any, all_in, in_filter, in_map, each_from}
-use Rattle.store_model.proofs.Paths.{has_name_in, in_has_name, has_object_in, in_has_object, name_eq_refl, reached_more, is_closed, closed_path}
+use Rattle.object_graph.proofs.Members.{In, any_in, in_any, all_in, in_filter, in_map, each_from}
+use Rattle.object_graph.proofs.Paths.{has_name_in, in_has_name, has_object_in, in_has_object, name_eq_refl, reached_more, is_closed, closed_path, path_first}
 
 -- the object's name is in the set, or an object of a name in the set refers to it
 abbrev pub is_next : List Object → List NameParts → Object → Bool
@@ -58,11 +58,6 @@ is_out_of_reach graph starts name =
     let set = rounds (length graph) graph starts in
     (is_closed graph set && holds_starts graph starts set) && not (has_name set name)
 
-path_first : (graph : List Object) (first : NameParts) (rest : List NameParts) (last : NameParts)
-    → IsPath graph first rest last → has_object graph first ≡ true
-path_first graph first [] last p = p.1
-path_first graph first (n ∷ ns) last p = p.1
-
 pub out_of_reach : (graph : List Object) (starts : List NameParts) (name : NameParts) → is_out_of_reach graph starts name ≡ true → ¬ IsReachedFrom graph starts name
 out_of_reach graph starts name h r =
     let set : List NameParts = rounds (length graph) graph starts in
@@ -82,74 +77,76 @@ out_of_reach graph starts name h r =
 abbrev pub is_within_reach : List Object → List NameParts → NameParts → Bool
 is_within_reach graph starts name = has_name (rounds (length graph) graph starts) name
 
-abbrev pub is_garbage : World → OpenedCut → NameParts → Bool
-is_garbage w cut name =
-    is_old cut name && (is_out_of_reach w.graph (starts w) name
+abbrev pub is_garbage : World → Opening → NameParts → Bool
+is_garbage w opening name =
+    is_old opening name && (is_out_of_reach w.graph (starts w) name
     && list_all (λ t. is_out_of_reach (view w t) t.known name) w.transactions)
 
 -- an object that was there as the cut opened is on another page, was reached or freed then, is freed since, or is freed now
-abbrev pub is_done : World → OpenedCut → ℕ → ℕ → Object → Bool
-is_done w cut page slots o =
-    not (o.name.page == page) || (not (is_old cut o.name) || (is_within_reach cut.opening.graph cut.opening.starts o.name
+abbrev pub is_done : World → Opening → ℕ → ℕ → Object → Bool
+is_done w opening page slots o =
+    not (o.name.page == page) || (not (is_old opening o.name) || (is_within_reach opening.graph opening.starts o.name
     || (is_freed w o.name || has_name (names_in w page slots) o.name)))
 
 -- a test by which a sweep may free this set of slots
-abbrev pub may_free : World → OpenedCut → ℕ → ℕ → Bool
-may_free w cut page slots =
-    list_all (λ slot. length (filter (λ o. not (is_freed w o.name)) (objects_at w.graph page slot)) == 1) (slots_in slots)
-    && (list_all (is_garbage w cut) (names_in w page slots)
-    && list_all (is_done w cut page slots) cut.opening.graph)
+abbrev pub may_free : World → Opening → ℕ → ℕ → Bool
+may_free w opening page slots =
+    list_all (λ slot. length (filter (is_unfreed w.freed) (objects_at w.graph page slot)) == 1) (slots_in slots)
+    && (list_all (is_garbage w opening) (names_in w page slots)
+    && list_all (is_done w opening page slots) opening.graph)
 
-pub garbage_by_test : (w : World) (cut : OpenedCut) (name : NameParts) → is_garbage w cut name ≡ true → IsGarbage w cut name
-garbage_by_test w cut name h =
+pub garbage_by_test : (w : World) (opening : Opening) (name : NameParts) → is_garbage w opening name ≡ true → IsGarbage w opening name
+garbage_by_test w opening name h =
     let others : Transaction → Bool = λ t. is_out_of_reach (view w t) t.known name in
-    let a = and_parts (is_old cut name) (is_out_of_reach w.graph (starts w) name && list_all others w.transactions) h in
+    let a = and_parts (is_old opening name) (is_out_of_reach w.graph (starts w) name && list_all others w.transactions) h in
     let b = and_parts (is_out_of_reach w.graph (starts w) name) (list_all others w.transactions) a.1 in
     record {
       old = a.0;
-      unreached = out_of_reach w.graph (starts w) name b.0;
-      unheld = each_from (λ t. ¬ IsHeldBy w t name) w.transactions
-          (λ t m. out_of_reach (view w t) t.known name (all_in others w.transactions t b.1 m));
+      out = (
+        out_of_reach w.graph (starts w) name b.0,
+        each_from (λ t. ¬ IsHeldBy w t name) w.transactions
+            (λ t m. out_of_reach (view w t) t.known name (all_in others w.transactions t b.1 m)),
+      );
     }
 
-done_cases : (w : World) (cut : OpenedCut) (page slots : ℕ) (name : NameParts) → IsLost cut name → name.page ≡ page → not (is_freed w name) ≡ true
-    → (a b c d e : Bool) → not (name.page == page) ≡ a → not (is_old cut name) ≡ b
-    → is_within_reach cut.opening.graph cut.opening.starts name ≡ c → is_freed w name ≡ d
+done_cases : (w : World) (opening : Opening) (page slots : ℕ) (name : NameParts) → IsLost opening name → name.page ≡ page → not (is_freed w name) ≡ true
+    → (a b c d e : Bool) → not (name.page == page) ≡ a → not (is_old opening name) ≡ b
+    → is_within_reach opening.graph opening.starts name ≡ c → is_freed w name ≡ d
     → (a || (b || (c || (d || e)))) ≡ true → e ≡ true
-done_cases w cut page slots name lost on unfreed true b c d e pa pb pc pd h =
+done_cases w opening page slots name lost on unfreed true b c d e pa pb pc pd h =
     let same = eq-eqb name.page page on in let f = not-true (name.page == page) pa in cc
-done_cases w cut page slots name lost on unfreed false true c d e pa pb pc pd h =
-    let f = not-true (is_old cut name) pb in let g = lost.old in cc
-done_cases w cut page slots name lost on unfreed false false true d e pa pb pc pd h =
-    absurd (lost.unreached (rounds_sound (length cut.opening.graph) cut.opening.graph cut.opening.starts name
-    (has_name_in (rounds (length cut.opening.graph) cut.opening.graph cut.opening.starts) name pc)))
-done_cases w cut page slots name lost on unfreed false false false true e pa pb pc pd h =
+done_cases w opening page slots name lost on unfreed false true c d e pa pb pc pd h =
+    let f = not-true (is_old opening name) pb in let g = lost.old in cc
+done_cases w opening page slots name lost on unfreed false false true d e pa pb pc pd h =
+    absurd (lost.unreached (rounds_sound (length opening.graph) opening.graph opening.starts name
+    (has_name_in (rounds (length opening.graph) opening.graph opening.starts) name pc)))
+done_cases w opening page slots name lost on unfreed false false false true e pa pb pc pd h =
     let f = not-true (is_freed w name) unfreed in cc
-done_cases w cut page slots name lost on unfreed false false false false e pa pb pc pd h = h
+done_cases w opening page slots name lost on unfreed false false false false e pa pb pc pd h = h
 
-complete_by_test : (w : World) (cut : OpenedCut) (page slots : ℕ) → list_all (is_done w cut page slots) cut.opening.graph ≡ true
-    → (name : NameParts) → IsLost cut name → name.page ≡ page → not (is_freed w name) ≡ true → has_name (names_in w page slots) name ≡ true
-complete_by_test w cut page slots h name lost on unfreed =
-    let graph : List Object = cut.opening.graph in
-    let o = and_parts (has_object graph name) (not (has_name cut.opening.freed name)) lost.old in
+complete_by_test : (w : World) (opening : Opening) (page slots : ℕ) → list_all (is_done w opening page slots) opening.graph ≡ true
+    → (name : NameParts) → IsLost opening name → name.page ≡ page → not (is_freed w name) ≡ true → has_name (names_in w page slots) name ≡ true
+complete_by_test w opening page slots h name lost on unfreed =
+    let graph : List Object = opening.graph in
+    let o = and_parts (has_object graph name) (not (has_name opening.freed name)) lost.old in
     let found = has_object_in graph name o.0 in
-    let d : is_done w cut page slots found.0 ≡ true = all_in (is_done w cut page slots) graph found.0 h found.1 in
-    done_cases w cut page slots name lost on unfreed
-    (not (name.page == page)) (not (is_old cut name)) (is_within_reach graph cut.opening.starts name) (is_freed w name)
+    let d : is_done w opening page slots found.0 ≡ true = all_in (is_done w opening page slots) graph found.0 h found.1 in
+    done_cases w opening page slots name lost on unfreed
+    (not (name.page == page)) (not (is_old opening name)) (is_within_reach graph opening.starts name) (is_freed w name)
     (has_name (names_in w page slots) name) refl refl refl refl
-    (subst (λ n. (not (n.page == page) || (not (is_old cut n) || (is_within_reach graph cut.opening.starts n
+    (subst (λ n. (not (n.page == page) || (not (is_old opening n) || (is_within_reach graph opening.starts n
     || (is_freed w n || has_name (names_in w page slots) n)))) ≡ true) found.2 d)
 
-pub may_free_by_test : (w : World) (cut : OpenedCut) (page slots : ℕ) → may_free w cut page slots ≡ true → MayFree w cut page slots
-may_free_by_test w cut page slots h =
-    let one : Bool = list_all (λ slot. length (filter (λ o. not (is_freed w o.name)) (objects_at w.graph page slot)) == 1) (slots_in slots) in
-    let safe : Bool = list_all (is_garbage w cut) (names_in w page slots) in
-    let done : Bool = list_all (is_done w cut page slots) cut.opening.graph in
+pub may_free_by_test : (w : World) (opening : Opening) (page slots : ℕ) → may_free w opening page slots ≡ true → MayFree w opening page slots
+may_free_by_test w opening page slots h =
+    let one : Bool = list_all (λ slot. length (filter (is_unfreed w.freed) (objects_at w.graph page slot)) == 1) (slots_in slots) in
+    let safe : Bool = list_all (is_garbage w opening) (names_in w page slots) in
+    let done : Bool = list_all (is_done w opening page slots) opening.graph in
     let a = and_parts one (safe && done) h in
     let b = and_parts safe done a.1 in
     record {
       one_each = a.0;
-      safe = each_from (IsGarbage w cut) (names_in w page slots)
-          (λ n m. garbage_by_test w cut n (all_in (is_garbage w cut) (names_in w page slots) n b.0 m));
-      complete = λ name lost on unfreed. complete_by_test w cut page slots b.1 name lost on unfreed;
+      safe = each_from (IsGarbage w opening) (names_in w page slots)
+          (λ n m. garbage_by_test w opening n (all_in (is_garbage w opening) (names_in w page slots) n b.0 m));
+      complete = λ name lost on unfreed. complete_by_test w opening page slots b.1 name lost on unfreed;
     }

@@ -9,10 +9,10 @@ use Rattle.object_graph.specs.declared.calls.Call.{Call}
 use Rattle.object_graph.specs.declared.calls.Call.TheVariants.{Begin, Get, Number, Set, Put, New, Commit, Abort, OpenCut, Copy, HandIn, Close, Mark, Sweep, EndCut, DropCut, Reopen}
 use Rattle.object_graph.specs.declared.calls.Refusal.{Refusal}
 use Rattle.object_graph.specs.declared.calls.Refusal.TheVariants.{NotOpen, Stranger, BadField, NoPage, Busy, TooWide, KnowsTooMany, PageFull, AlreadyOpen, TooMany, CutThere, NoCut, WrongPhase, AlreadyCopied, Uncopied, OtherCut, AlreadySwept, Unswept, Spent, Broken, Memory}
-use Rattle.store_model.specs.Limits.{most_written, most_known, most_counted}
+use Rattle.store_model.specs.Limits.{most_written, most_known, most_counted, last_generation}
 use Rattle.object_graph.specs.Graphs.{object_named, has_name, is_at, objects_at}
 use Rattle.object_graph.specs.Slots.{below, least}
-use Rattle.store_model.specs.Worlds.{World, Transaction, OpenedCut, Note, marks, slots_of, fields_of, find_transaction, transaction, is_freed, view}
+use Rattle.store_model.specs.Worlds.{World, Transaction, OpenedCut, Note, marks, slots_of, fields_of, find_transaction, transaction, is_unfreed, view}
 
 -- a list of pages has this one
 abbrev pub has_page : List ℕ → ℕ → Bool
@@ -52,7 +52,7 @@ number_seen w number name = unwrap_or (option_map (λ o. o.number) (object_named
 -- a slot that a transaction can't take: an unfreed object stands there, its own object does, or the last name was given
 abbrev pub is_occupied : World → ℕ → ℕ → ℕ → Bool
 is_occupied w number page slot =
-    list_any (λ o. not (is_freed w o.name) || (o.name.generation == 65535)) (objects_at w.graph page slot)
+    list_any (λ o. is_unfreed w.freed o || (o.name.generation == last_generation)) (objects_at w.graph page slot)
     || list_any (is_at page slot) (transaction w number).own
 
 -- the least slot of a page that a transaction can take

@@ -1,5 +1,6 @@
 -- Histories, and which histories follow a script.
 use Rattle.std.specs.Prelude.{◌≡◌, ℕ, Bool, true, false, ◌==◌, List, [], ◌∷◌, ◌++◌, map, filter, MatchBool, IfSome, IsSomeAnd}
+use Rattle.std.specs.List.{AllByRecursion}
 use Rattle.object_graph.specs.declared.calls.Call.{Call}
 use Rattle.object_graph.specs.declared.calls.Call.TheVariants.{OpenCut, Copy, Close, Mark, Sweep, EndCut}
 use Rattle.object_graph.specs.declared.calls.Entry.{Entry}
@@ -46,6 +47,10 @@ Makes (call ∷ calls) (e ∷ events) rest = (e.entry.call ≡ call) × MatchBoo
 abbrev pub Follows : List (List Call) → List Event → Type 0
 Follows [] events = events ≡ []
 Follows (calls ∷ lines) events = (rest : List Event) × Makes calls events rest × Follows lines rest
+
+-- the events of one script: all are of lane 1
+abbrev pub IsRun : List Event → Type 0
+IsRun events = AllByRecursion (λ e. e.entry.lane ≡ 1) events
 
 -- the events of a lane
 abbrev pub of_lane : ℕ → List Event → List Event

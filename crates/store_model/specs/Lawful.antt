@@ -1,13 +1,19 @@
 -- What each world of a history keeps.
-use Rattle.std.specs.Prelude.{◌≡◌, ◌≢◌, ℕ, suc, ◌<◌, false, not, ◌&&◌, ◌||◌, ◌==◌, ◌⊎◌, Some, None, List, [], ◌∷◌, length, map, filter, IsTrue, MatchOption}
+use Rattle.std.specs.Prelude.{◌≡◌, ◌≢◌, ℕ, suc, ◌<◌, false, not, ◌&&◌, ◌||◌, ◌==◌, ◌⊎◌, Some, None, List, [], ◌∷◌, length, map, filter, is_some, IsTrue, MatchOption}
 use Rattle.std.specs.List.{AllByRecursion}
 use Rattle.object_graph.specs.NameParts.{NameParts}
 use Rattle.object_graph.specs.Names.{root_name}
 use Rattle.object_graph.specs.declared.names.Object.{Object}
-use Rattle.object_graph.specs.Graphs.{has_name, has_object, refers, is_at, objects_at}
+use Rattle.object_graph.specs.Graphs.{has_name, has_object, refers, is_at, objects_at, IsReachedFrom}
 use Rattle.object_graph.specs.Slots.{below}
-use Rattle.store_model.specs.Worlds.{World, Transaction, OpenedCut, Write, link, assign, starts, is_freed, unfreed, is_old, IsReached, IsHeldBy, IsLost}
+use Rattle.store_model.specs.Worlds.{World, Transaction, OpenedCut, Opening, Doubt, no_doubt, commit_in_doubt, sweep_in_doubt, Write, link, assign, slots_of, starts, find_transaction, is_freed, is_unfreed, is_old, IsOutOfReach, IsLost}
 use Rattle.store_model.specs.Causes.{has_page, name_at}
+
+-- ---- the graph
+
+-- the name stands on a page of the store, in a slot of that page
+abbrev pub IsPlaced : ℕ → (ℕ → ℕ) → NameParts → Type 0
+IsPlaced pages slots name = (name.page < pages) × (name.slot < slots name.page)
 
 -- the generations of the names at a place, in the order of the graph
 abbrev pub generations_at : List Object → ℕ → ℕ → List ℕ
@@ -18,10 +24,19 @@ abbrev pub CountsUp : List Object → Type 0
 CountsUp graph = (page slot : ℕ) → generations_at graph page slot ≡ map suc (below (length (objects_at graph page slot)))
 
 -- an unfreed name is the last of its place
-abbrev pub OnlyLastUnfreed : World → Type 0
-OnlyLastUnfreed w = AllByRecursion (λ o. o.name.generation ≡ length (objects_at w.graph o.name.page o.name.slot)) (unfreed w)
+abbrev pub IsLastOfPlace : List Object → Object → Type 0
+IsLastOfPlace graph o = o.name.generation ≡ length (objects_at graph o.name.page o.name.slot)
 
--- the name that was written, and what was written there
+abbrev pub OnlyLastUnfreed : List Object → List NameParts → Type 0
+OnlyLastUnfreed graph freed = AllByRecursion (IsLastOfPlace graph) (filter (is_unfreed freed) graph)
+
+-- what is reached refers to nothing but names of the graph
+abbrev pub RefersWithin : List Object → List NameParts → Type 0
+RefersWithin graph starts = (name target : NameParts) → IsReachedFrom graph starts name → IsTrue (refers graph name target) → IsTrue (has_object graph target)
+
+-- ---- an open transaction
+
+-- a write is to a known name on a page written, and its target is none or known
 abbrev pub IsKnownWrite : Transaction → Write → Type 0
 IsKnownWrite t (link name field None) = IsTrue (has_name t.known name && has_page t.pages_written name.page)
 IsKnownWrite t (link name field (Some target)) = IsTrue ((has_name t.known name && has_page t.pages_written name.page) && has_name t.known target)
@@ -62,27 +77,47 @@ IsApart t u = (page : ℕ) → IsTrue (has_page u.pages_read page || has_page u.
 abbrev pub AreApart : List Transaction → Type 0
 AreApart ts = AllByRecursion (λ t. AllByRecursion (λ u. u.number ≢ t.number → IsApart t u) ts) ts
 
--- nothing leads to the name: neither from the starts nor from what an open transaction knows
-abbrev pub IsOutOfReach : World → NameParts → Type 0
-IsOutOfReach w name = (¬ IsReached w name) × AllByRecursion (λ t. ¬ IsHeldBy w t name) w.transactions
+-- ---- all of it
 
--- nothing leads to what was lost, and nothing else that is unfreed refers to it
-abbrev pub AreLostOutOfReach : World → OpenedCut → Type 0
-AreLostOutOfReach w cut = (name : NameParts) → IsLost cut name → IsOutOfReach w name
+-- the graph and the open transactions are in order
+pub record AreInOrder (pages : ℕ) (slots : ℕ → ℕ) (graph : List Object) (freed starts : List NameParts) (ts : List Transaction) : Type 0 where
+  pub root : IsTrue (has_object graph root_name && not (has_name freed root_name))
+  pub placed : AllByRecursion (λ o. IsPlaced pages slots o.name) graph
+  pub own_placed : AllByRecursion (λ t. AllByRecursion (IsPlaced pages slots) t.own) ts
+  pub whole : RefersWithin graph starts
+  pub counted : CountsUp graph
+  pub last : OnlyLastUnfreed graph freed
+  pub distinct : (number : ℕ) → length (filter (λ t. t.number == number) ts) < 2
+  pub transactions : AllByRecursion (IsLawfulTransaction graph freed starts) ts
+  pub apart : AreApart ts
+  pub freed_there : AllByRecursion (λ name. IsTrue (has_object graph name)) freed
 
-pub record IsLawfulCut (graph : List Object) (freed : List NameParts) (cut : OpenedCut) : Type 0 where
-  pub kept : (name target : NameParts) → ¬ IsLost cut name → IsLost cut target → IsTrue (not (has_name freed name)) → ¬ IsTrue (refers graph name target)
-  pub old : (name : NameParts) → IsTrue (is_old cut name) → IsTrue (has_object graph name)
+abbrev pub IsOrderly : World → Type 0
+IsOrderly w = AreInOrder w.pages (slots_of w) w.graph w.freed (starts w) w.transactions
+
+-- what a world keeps of a cut's opening: what was lost is out of reach, and nothing else that is unfreed refers to it
+pub record KeepsLost (w : World) (opening : Opening) : Type 0 where
+  pub there : (name : NameParts) → IsTrue (is_old opening name) → IsTrue (has_object w.graph name)
+  pub out : (name : NameParts) → IsLost opening name → IsOutOfReach w name
+  pub kept : (name target : NameParts) → ¬ IsLost opening name → IsLost opening target → IsTrue (not (has_name w.freed name)) → ¬ IsTrue (refers w.graph name target)
+
+abbrev pub KeepsLostOf : World → OpenedCut → Type 0
+KeepsLostOf w cut = KeepsLost w cut.opening
+
+-- on each page that is swept all that was lost is freed
+abbrev pub HasFreedSwept : World → OpenedCut → Type 0
+HasFreedSwept w cut = (name : NameParts) → IsLost cut.opening name → IsTrue (has_page cut.swept name.page) → IsTrue (is_freed w name)
+
+-- only a broken world is in doubt, and a commit in doubt is that of an open transaction
+abbrev pub IsDoubtOf : World → Doubt → Type 0
+IsDoubtOf w no_doubt = Unit {0}
+IsDoubtOf w (commit_in_doubt number) = IsTrue (is_some w.broken && is_some (find_transaction w number))
+IsDoubtOf w (sweep_in_doubt page) = IsTrue (is_some w.broken)
 
 -- what each world of a history keeps
 pub record IsLawful (w : World) : Type 0 where
-  pub root : IsTrue (has_object w.graph root_name && not (is_freed w root_name))
-  pub counted : CountsUp w.graph
-  pub last : OnlyLastUnfreed w
-  pub distinct : (number : ℕ) → length (filter (λ t. t.number == number) w.transactions) < 2
-  pub transactions : AllByRecursion (IsLawfulTransaction w.graph w.freed (starts w)) w.transactions
-  pub apart : AreApart w.transactions
-  pub freed_there : AllByRecursion (λ name. IsTrue (has_object w.graph name)) w.freed
+  pub orderly : IsOrderly w
   pub freed : AllByRecursion (IsOutOfReach w) w.freed
-  pub lost : MatchOption w.cut (Unit {0}) (AreLostOutOfReach w)
-  pub cut : MatchOption w.cut (Unit {0}) (IsLawfulCut w.graph w.freed)
+  pub lost : MatchOption w.cut (Unit {0}) (KeepsLostOf w)
+  pub swept : MatchOption w.cut (Unit {0}) (HasFreedSwept w)
+  pub doubt : IsDoubtOf w w.doubt

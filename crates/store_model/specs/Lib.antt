@@ -4,7 +4,7 @@ pub mod Replies
 pub mod Steps
 pub mod Histories
 pub mod Lawful
-pub mod Laws
 pub mod Images
 pub mod Limits
 pub mod Texts
+pub mod Examples

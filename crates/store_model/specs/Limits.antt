@@ -13,3 +13,7 @@ most_known = 4096
 
 abbrev pub most_counted : ℕ
 most_counted = 281474976710656
+
+-- the generation after which a place has no further name
+abbrev pub last_generation : ℕ
+last_generation = 65535

@@ -10,7 +10,7 @@ use Rattle.object_graph.specs.declared.calls.Reply.TheVariants.{Done, Ref, Num, 
 use Rattle.object_graph.specs.declared.calls.Refusal.{Refusal}
 use Rattle.object_graph.specs.declared.calls.Refusal.TheVariants.{DiskFault, Memory}
 use Rattle.object_graph.specs.Graphs.{has_name, objects_at}
-use Rattle.store_model.specs.Worlds.{World, OpenedCut, Doubt, no_doubt, commit_in_doubt, sweep_in_doubt, Note, nothing, faults, images, marks, found, Event, is_freed, unfreed, is_old, IsReached, IsHeldBy, IsLost}
+use Rattle.store_model.specs.Worlds.{World, Opening, Doubt, no_doubt, commit_in_doubt, sweep_in_doubt, Note, nothing, faults, images, marks, found, Event, is_freed, is_unfreed, unfreed, is_old, IsOutOfReach, IsLost}
 use Rattle.store_model.specs.Causes.{first_refusal, field_seen, number_seen, new_name}
 
 -- the names that go where these slots of a page are freed
@@ -18,20 +18,19 @@ abbrev pub names_in : World → ℕ → ℕ → List NameParts
 names_in w page slots = map (λ o. o.name) (filter (λ o. (o.name.page == page) && has_slot slots o.name.slot) (unfreed w))
 
 -- the name was there as the cut opened, and nothing leads to it now
-pub record IsGarbage (w : World) (cut : OpenedCut) (name : NameParts) : Type 0 where
-  pub old : IsTrue (is_old cut name)
-  pub unreached : ¬ IsReached w name
-  pub unheld : AllByRecursion (λ t. ¬ IsHeldBy w t name) w.transactions
+pub record IsGarbage (w : World) (opening : Opening) (name : NameParts) : Type 0 where
+  pub old : IsTrue (is_old opening name)
+  pub out : IsOutOfReach w name
 
 -- a sweep of the page may free this set of slots
-pub record MayFree (w : World) (cut : OpenedCut) (page slots : ℕ) : Type 0 where
-  pub one_each : IsTrue (list_all (λ slot. length (filter (λ o. not (is_freed w o.name)) (objects_at w.graph page slot)) == 1) (slots_in slots))
-  pub safe : AllByRecursion (IsGarbage w cut) (names_in w page slots)
-  pub complete : (name : NameParts) → IsLost cut name → name.page ≡ page → IsTrue (not (is_freed w name)) → IsTrue (has_name (names_in w page slots) name)
+pub record MayFree (w : World) (opening : Opening) (page slots : ℕ) : Type 0 where
+  pub one_each : IsTrue (list_all (λ slot. length (filter (is_unfreed w.freed) (objects_at w.graph page slot)) == 1) (slots_in slots))
+  pub safe : AllByRecursion (IsGarbage w opening) (names_in w page slots)
+  pub complete : (name : NameParts) → IsLost opening name → name.page ≡ page → IsTrue (not (is_freed w name)) → IsTrue (has_name (names_in w page slots) name)
 
 -- with no cut nothing may be freed
 abbrev pub MayFreeNow : World → ℕ → ℕ → Type 0
-MayFreeNow w page slots = MatchOption w.cut ⊥ (λ cut. MayFree w cut page slots)
+MayFreeNow w page slots = MatchOption w.cut ⊥ (λ cut. MayFree w cut.opening page slots)
 
 -- the names found freed after a reopening
 abbrev pub found_in : Note → List NameParts
@@ -57,10 +56,10 @@ abbrev pub AnswersReopen : World → Note → Reply → Type 0
 AnswersReopen w note (Reopened commits) = MayReopen w w.doubt commits (found_in note)
 AnswersReopen w note _ = ⊥
 
--- the name that is made, if there is one
-abbrev pub answer_made : Option NameParts → Reply → Type 0
-answer_made None reply = ⊥
-answer_made (Some name) reply = reply ≡ Made name
+-- the answer to a call for a new object: its name, where there is one
+abbrev pub AnswersNew : Option NameParts → Reply → Type 0
+AnswersNew None reply = ⊥
+AnswersNew (Some name) reply = reply ≡ Made name
 
 -- the answers to a call that isn't refused
 abbrev pub Answers : World → Call → Note → Reply → Type 0
@@ -69,7 +68,7 @@ Answers w (Get t name field) note reply = reply ≡ Ref (field_seen w t name fie
 Answers w (Number t name) note reply = reply ≡ Num (number_seen w t name)
 Answers w (Set t name field target) note reply = reply ≡ Done
 Answers w (Put t name value) note reply = reply ≡ Done
-Answers w (New t page) note reply = answer_made (new_name w t page) reply
+Answers w (New t page) note reply = AnswersNew (new_name w t page) reply
 Answers w (Commit t) note reply = reply ≡ Committed (w.commits + 1)
 Answers w (Abort t) note reply = reply ≡ Done
 Answers w OpenCut note reply = reply ≡ Cut (w.last_cut + 1)

@@ -1,5 +1,5 @@
 -- The world after an event.
-use Rattle.std.specs.Prelude.{ℕ, ◌+◌, not, ◌==◌, Option, Some, None, List, [], ◌∷◌, ◌++◌, map, filter, option_map, if◌then◌else◌}
+use Rattle.std.specs.Prelude.{ℕ, ◌+◌, Bool, true, false, not, ◌==◌, Option, Some, None, List, [], ◌∷◌, ◌++◌, map, filter, option_map, if◌then◌else◌}
 use Rattle.object_graph.specs.NameParts.{NameParts}
 use Rattle.object_graph.specs.declared.names.Object.{Object}
 use Rattle.object_graph.specs.declared.calls.Phase.TheVariants.{Copying, Closed, Sweeping}
@@ -36,7 +36,7 @@ abbrev pub writes : Write → ℕ → Transaction → Transaction
 writes write page t = record t { writes = write ∷ t.writes; pages_written = with_page page t.pages_written }
 
 abbrev pub makes : NameParts → Transaction → Transaction
-makes name t = record t { own = name ∷ t.own; known = with_name name t.known; pages_written = with_page name.page t.pages_written }
+makes name t = record t { own = t.own ++ name ∷ []; known = with_name name t.known; pages_written = with_page name.page t.pages_written }
 
 -- the open transactions without one
 abbrev pub without : World → ℕ → List Transaction
@@ -145,3 +145,9 @@ after_reply w call note reply = after_answer w call note reply
 -- the world after an event
 abbrev pub next : World → Event → World
 next w e = after_reply w e.entry.call e.note e.entry.reply
+
+-- the call may change the graph
+abbrev pub changes_graph : Call → Bool
+changes_graph (Commit t) = true
+changes_graph Reopen = true
+changes_graph _ = false

@@ -1,5 +1,6 @@
 -- The texts of calls, replies, entries and histories.
-use Rattle.std.specs.Prelude.{ℕ, Option, Some, None, List, [], ◌∷◌, ◌++◌, codes, flat_map, decimal}
+use Rattle.std.specs.Prelude.{ℕ, ◌<◌, ◌^◌, Bool, true, false, Option, Some, None, List, [], ◌∷◌, ◌++◌, codes, flat_map, decimal}
+use Rattle.std.specs.List.{AllByRecursion}
 use Rattle.object_graph.specs.NameParts.{NameParts}
 use Rattle.object_graph.specs.Slots.{slots_in}
 use Rattle.object_graph.specs.declared.calls.Call.{Call}
@@ -68,6 +69,41 @@ reply_text (Freed slots) = codes "freed" ++ slots_text (slots_in slots)
 reply_text (Reopened commits) = codes "open " ++ decimal commits
 reply_text (Refused why) = refusal_text why
 
+-- the numbers in a refusal, in the order of its text
+abbrev pub refusal_numbers : Refusal → List ℕ
+refusal_numbers (Busy holder) = holder ∷ []
+refusal_numbers (PageFull page) = page ∷ []
+refusal_numbers (CutThere number) = number ∷ []
+refusal_numbers (AlreadyCopied page) = page ∷ []
+refusal_numbers (Uncopied page) = page ∷ []
+refusal_numbers (OtherCut now) = now ∷ []
+refusal_numbers (AlreadySwept page) = page ∷ []
+refusal_numbers (Unswept page) = page ∷ []
+refusal_numbers (Spent count) = count ∷ []
+refusal_numbers (Broken faults) = faults ∷ []
+refusal_numbers (Damaged at) = at ∷ []
+refusal_numbers _ = []
+
+-- the numbers in a reply that frees nothing, in the order of its text
+abbrev pub reply_numbers : Reply → List ℕ
+reply_numbers (Ref (Some name)) = name.page ∷ name.slot ∷ name.generation ∷ []
+reply_numbers (Num value) = value ∷ []
+reply_numbers (Made name) = name.page ∷ name.slot ∷ name.generation ∷ []
+reply_numbers (Committed commits) = commits ∷ []
+reply_numbers (Cut number) = number ∷ []
+reply_numbers (Reopened commits) = commits ∷ []
+reply_numbers (Refused why) = refusal_numbers why
+reply_numbers _ = []
+
+-- the reply tells which slots were freed
+abbrev pub is_freeing : Reply → Bool
+is_freeing (Freed slots) = true
+is_freeing _ = false
+
+-- each number fits 64 bits
+abbrev pub AreShort : List ℕ → Type 0
+AreShort numbers = AllByRecursion (λ n. n < 2 ^ 64) numbers
+
 -- a reply's line
 abbrev pub event_text : Event → List ℕ
 event_text e = reply_text e.entry.reply ++ 10 ∷ []
@@ -96,6 +132,28 @@ call_text (Sweep page) = codes "sweep " ++ decimal page
 call_text EndCut = codes "end"
 call_text DropCut = codes "drop"
 call_text Reopen = codes "reopen"
+
+-- the numbers in a call, in the order of its text
+abbrev pub call_numbers : Call → List ℕ
+call_numbers (Begin txn) = txn ∷ []
+call_numbers (Get txn name field) = txn ∷ name.page ∷ name.slot ∷ name.generation ∷ field ∷ []
+call_numbers (Number txn name) = txn ∷ name.page ∷ name.slot ∷ name.generation ∷ []
+call_numbers (Set txn name field None) = txn ∷ name.page ∷ name.slot ∷ name.generation ∷ field ∷ []
+call_numbers (Set txn name field (Some target)) = txn ∷ name.page ∷ name.slot ∷ name.generation ∷ field ∷ target.page ∷ target.slot ∷ target.generation ∷ []
+call_numbers (Put txn name value) = txn ∷ name.page ∷ name.slot ∷ name.generation ∷ value ∷ []
+call_numbers (New txn page) = txn ∷ page ∷ []
+call_numbers (Commit txn) = txn ∷ []
+call_numbers (Abort txn) = txn ∷ []
+call_numbers (Copy page) = page ∷ []
+call_numbers (HandIn page cut seen) = page ∷ []
+call_numbers (Mark workers) = workers ∷ []
+call_numbers (Sweep page) = page ∷ []
+call_numbers _ = []
+
+-- the call is a copy that is handed in, whose text is that of a copy
+abbrev pub is_hand_in : Call → Bool
+is_hand_in (HandIn page cut seen) = true
+is_hand_in _ = false
 
 -- an entry's line: lane, call and reply
 abbrev pub entry_text : Entry → List ℕ

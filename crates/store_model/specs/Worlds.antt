@@ -1,7 +1,8 @@
 -- What the store stands for: one graph that only grows, what was freed, the open transactions and the cut.
-use Rattle.std.specs.Prelude.{ℕ, Bool, not, ◌&&◌, ◌==◌, Option, None, List, [], ◌∷◌, ◌++◌, map, filter, find, unwrap_or, if◌then◌else◌, IsTrue}
+use Rattle.std.specs.Prelude.{ℕ, Bool, not, ◌&&◌, ◌==◌, Option, None, List, [], ◌∷◌, ◌++◌, map, filter, find, unwrap_or, IsTrue}
+use Rattle.std.specs.List.{AllByRecursion}
 use Rattle.object_graph.specs.NameParts.{NameParts}
-use Rattle.object_graph.specs.Names.{name_eq, root_name}
+use Rattle.object_graph.specs.Names.{root_name}
 use Rattle.object_graph.specs.declared.names.Object.{Object}
 use Rattle.object_graph.specs.declared.calls.Phase.{Phase}
 use Rattle.object_graph.specs.declared.calls.Entry.{Entry}
@@ -13,7 +14,7 @@ pub data Write : Type 0 where
   link : NameParts → ℕ → Option NameParts → Write
   assign : NameParts → ℕ → Write
 
--- an open transaction. The newest write stands first
+-- an open transaction. Its own objects stand oldest first, its writes newest first
 pub record Transaction : Type 0 where
   pub number : ℕ
   pub known : List NameParts
@@ -113,8 +114,11 @@ abbrev pub is_freed : World → NameParts → Bool
 is_freed w name = has_name w.freed name
 
 -- the unfreed objects of the graph
+abbrev pub is_unfreed : List NameParts → Object → Bool
+is_unfreed freed o = not (has_name freed o.name)
+
 abbrev pub unfreed : World → List Object
-unfreed w = filter (λ o. not (is_freed w o.name)) w.graph
+unfreed w = filter (is_unfreed w.freed) w.graph
 
 -- an object after a write
 abbrev pub written_by : Write → Object → Object
@@ -138,11 +142,15 @@ IsReached w name = IsReachedFrom w.graph (starts w) name
 abbrev pub IsHeldBy : World → Transaction → NameParts → Type 0
 IsHeldBy w t name = IsReachedFrom (view w t) t.known name
 
+-- nothing leads to the name: neither from the starts nor from what an open transaction knows
+abbrev pub IsOutOfReach : World → NameParts → Type 0
+IsOutOfReach w name = (¬ IsReached w name) × AllByRecursion (λ t. ¬ IsHeldBy w t name) w.transactions
+
 -- the names that were unfreed as the cut opened
-abbrev pub is_old : OpenedCut → NameParts → Bool
-is_old cut name = has_object cut.opening.graph name && not (has_name cut.opening.freed name)
+abbrev pub is_old : Opening → NameParts → Bool
+is_old opening name = has_object opening.graph name && not (has_name opening.freed name)
 
 -- the names that were unfreed and out of reach as the cut opened
-pub record IsLost (cut : OpenedCut) (name : NameParts) : Type 0 where
-  pub old : IsTrue (is_old cut name)
-  pub unreached : ¬ IsReachedFrom cut.opening.graph cut.opening.starts name
+pub record IsLost (opening : Opening) (name : NameParts) : Type 0 where
+  pub old : IsTrue (is_old opening name)
+  pub unreached : ¬ IsReachedFrom opening.graph opening.starts name

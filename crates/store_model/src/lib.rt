@@ -1,36 +1,39 @@
-//! The model of the store: one graph that only grows, open transactions, and reachability by paths.
+//! The model of the store: one graph that only grows, open transactions, a cut, and reachability by
+//! paths. The definitions stand in `specs/`. Each function without a result is a law of them, and does
+//! nothing when it is called.
 #![tactic(auto)]
 
-ghost use Rattle.std.specs.Prelude.{◌≡◌, ◌≢◌, ◌↔◌, List, [], ◌∷◌, ◌++◌};
-ghost use Rattle.object_graph.specs.declared.calls.Call.{Call as AnyCall};
-ghost use Rattle.object_graph.specs.declared.calls.Refusal.{Refusal as AnyRefusal};
-ghost use Rattle.object_graph.specs.declared.calls.Refusal.TheVariants.{DiskFault};
-ghost use Rattle.std.specs.Prelude.{IsTrue, not, ◌≤◌, ◌<◌, IfSome, length};
-ghost use Rattle.object_graph.specs.declared.calls.Reply.{Reply as AnyReply};
-ghost use Rattle.store_model.specs.Worlds.{World, Note, Event};
-ghost use Rattle.store_model.specs.Steps.{after_reply};
-ghost use Rattle.store_model.specs.Laws.{changes_graph};
-ghost use Rattle.store_model.specs.Replies.{Allows};
-ghost use Rattle.store_model.specs.Steps.{after_refusal, next};
-ghost use Rattle.store_model.specs.Histories.{after, IsLegal};
+mod examples;
+mod histories;
+mod lawful;
+mod limits;
+mod steps;
+mod texts;
 
-/// A refusal leaves the world, but for a disk fault.
-pub fn refusal_leaves_the_world()
-    ensures { (w : World) (call : AnyCall) (note : Note) (why : AnyRefusal) → why ≢ DiskFault → after_refusal w call note why ≡ w }
-{}
-
-/// A history is legal with one more event exactly where it is legal without it and the event is allowed after it.
-pub fn one_more_event()
-    ensures after { (w : World) (events : List Event) (e : Event) → after w (events ++ e ∷ []) ≡ next (after w events) e }
-    ensures legal { (w : World) (events : List Event) (e : Event) → IsLegal w (events ++ e ∷ []) ↔ (IsLegal w events × Allows (after w events) e) }
-{}
-
-/// Only a commit and a reopening change the graph.
-pub fn graph_changes_at_commits()
-    ensures { (w : World) (call : AnyCall) (note : Note) (reply : AnyReply) → IsTrue (not (changes_graph call)) → (after_reply w call note reply).graph ≡ w.graph }
-{}
-
-/// The number of commits does not fall but by a reopening.
-pub fn commits_do_not_fall()
-    ensures { (w : World) (call : AnyCall) (note : Note) (reply : AnyReply) → IsTrue (not (changes_graph call)) → w.commits ≤ (after_reply w call note reply).commits }
-{}
+pub use examples::{
+    a_born_object_is_not_freed, a_chain_unlinked_is_collected, a_collection_stops_at_a_refusal,
+    a_commit_in_doubt_may_be_done, a_commit_in_doubt_may_be_lost, a_commit_is_not_counted_twice,
+    a_dirty_copy_outlives_an_abort, a_lock_conflict_is_busy, a_locked_page_is_swept,
+    a_lost_object_is_not_left, a_moved_pointer_is_seen, a_number_is_put, a_page_fills,
+    a_sweep_in_doubt_may_be_done, busy_names_the_holder, nothing_is_collected, one_at_a_time,
+    phases_come_in_order, refusals_come_in_order, refusals_keep_their_order,
+    what_is_born_in_a_cut_outlives_it,
+};
+pub use histories::{
+    histories_in_two_parts, is_refused, one_more_event, present_marks_are_of_no_other_cut,
+};
+pub use lawful::{
+    a_commit_reaches_own_objects_alone, a_new_name_is_new,
+    an_ended_cut_has_freed_all_that_was_lost, each_event_keeps_the_world_lawful,
+    fresh_worlds_are_lawful, histories_keep_the_world_lawful, names_count_up,
+    what_a_transaction_holds_is_reached_or_its_own, what_is_freed_is_out_of_reach,
+    what_is_out_of_reach_stays_so,
+};
+pub use limits::{last_generation, most_counted, most_known, most_open, most_written};
+pub use steps::{
+    broken_comes_first, commits_do_not_fall, committed_names_stay, freed_names_stay,
+    only_commits_and_reopenings_change_the_graph, refusals_leave_the_world,
+};
+pub use texts::{
+    no_two_calls_have_one_text, no_two_refusals_have_one_text, no_two_replies_have_one_text,
+};

@@ -1,0 +1,17 @@
+pub mod Flats
+pub mod Shown
+pub mod CutGraphs
+pub mod Safety
+pub mod Views
+pub mod Fits
+pub mod Commits
+pub mod Events
+pub mod Openings
+pub mod Sweeps
+pub mod Phases
+pub mod Fresh
+pub mod Places
+pub mod Turning
+pub mod FrameSteps
+pub mod Courses
+pub mod Scripts

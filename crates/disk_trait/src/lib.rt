@@ -1,0 +1,15 @@
+//! The outside of the store: where bytes come from, where they go, and the disk; and fakes of these
+//! in memory, whose failing calls a test can choose.
+#![tactic(auto)]
+
+mod disk;
+mod failed;
+mod sink;
+mod source;
+#[cfg(test)]
+mod tests;
+
+pub use disk::{Disk, MemDisk};
+pub use failed::Failed;
+pub use sink::{MemSink, Sink, StdSink};
+pub use source::{MemSource, Source, StdSource};

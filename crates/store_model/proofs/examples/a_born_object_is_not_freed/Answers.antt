@@ -1,0 +1,5 @@
+use Rattle.store_model.proofs.Scripts.{a_born_object_is_freed_illegal}
+use Rattle.store_model.proofs.examples.a_born_object_is_not_freed.Goals as goal
+
+pub returns : goal.returns
+returns c = a_born_object_is_freed_illegal
