@@ -4,12 +4,14 @@
 
 mod disk;
 mod failed;
+mod memory;
 mod sink;
 mod source;
 #[cfg(test)]
 mod tests;
 
-pub use disk::{Disk, MemDisk};
+pub use disk::Disk;
 pub use failed::Failed;
+pub use memory::MemDisk;
 pub use sink::{MemSink, Sink, StdSink};
 pub use source::{MemSource, Source, StdSource};

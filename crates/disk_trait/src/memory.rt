@@ -1,0 +1,174 @@
+//! A disk in memory. It notes each write and each sync, so that what a crash may leave is known.
+ghost use Rattle.std.specs.Prelude.{◌≡◌, ◌≤◌, ◌<◌, ◌+◌, ◌++◌, ◌∷◌, true, false, Some, length, IfOk, OnOk, OnErr, vec_len, vec_capacity, []};
+ghost use Rattle.disk_trait.specs.Disk.{Only, written};
+ghost use Rattle.disk_trait.specs.Notes.{content_after, Images, notes_fit, LeftSince};
+ghost use Rattle.disk_trait.specs.NoteLaws.{honest_notes, counts_notes, only_notes, told};
+
+use crate::disk::Disk;
+use crate::failed::{Failed, is_to_fail, raise};
+use object_graph::Memory;
+use std::alloc::{AllocError, Global};
+
+/// What was done to a disk in memory.
+#[derive(Drop)]
+pub enum Note {
+    /// A write at this place.
+    Write(usize, Vec<u8>),
+    /// A sync.
+    Sync,
+}
+
+/// A disk in memory.
+#[derive(Drop)]
+pub struct MemDisk {
+    alloc: Global,
+    first: Vec<u8>,
+    bytes: Vec<u8>,
+    notes: Vec<Note>,
+    fail: Vec<u64>,
+    calls: u64,
+    lacks: u64,
+    faults: u64,
+    // A write has come since the last sync.
+    pending: bool,
+    ghost kept: { bytes.items ≡ content_after first.items notes.items },
+    ghost fits: { notes_fit (length first.items) notes.items ≡ true },
+    ghost room: { pending ≡ true → vec_len notes < vec_capacity notes },
+    ghost calm: { pending ≡ false → Only bytes.items (Images first.items (λ e. e ≡ first.items) notes.items) },
+}
+
+impl MemDisk {
+    ghost use Rattle.disk_trait.specs.DiskParts.{parts_of, fresh_disk};
+
+    /// Zero bytes. `fail` lists the device calls, counted from 1 over all kinds, that are to fail.
+    pub fn new(alloc: Global, len: u64, fail: Vec<u64>) -> Result<MemDisk, Memory>
+        ensures { IfOk result (λ d. parts_of d ≡ fresh_disk len fail.items) }
+    {
+        let Ok(first) = vec![in alloc; 0u8; len as usize] else {
+            return Err(Memory);
+        };
+        let Ok(bytes) = first.clone() else {
+            return Err(Memory);
+        };
+        Ok(MemDisk {
+            alloc,
+            first,
+            bytes,
+            notes: Vec::new(alloc),
+            fail,
+            calls: 0,
+            lacks: 0,
+            faults: 0,
+            pending: false,
+        })
+    }
+
+    /// How many device calls there were, up to the last number of 64 bits.
+    pub fn calls(&self) -> u64
+        ensures { result ≡ (parts_of self.now).calls }
+    {
+        self.calls
+    }
+
+    /// How many writes found no memory for their notes, up to the last number of 64 bits.
+    pub fn lacks(&self) -> u64
+        ensures { result ≡ (parts_of self.now).lacks }
+    {
+        self.lacks
+    }
+}
+
+// Notes a write and does it. There is room for the note of a sync afterwards.
+fn note_write(
+    alloc: Global,
+    notes: &mut Vec<Note>,
+    bytes: &mut Vec<u8>,
+    at: usize,
+    new: &[u8],
+) -> Result<(), AllocError>
+    requires { at + length new.now ≤ length bytes.old.items }
+    ensures done { OnOk result (bytes.new.items ≡ written at new.now bytes.old.items) }
+    ensures noted { OnOk result ((v : _) × (v.items ≡ new.now) × (notes.new.items ≡ notes.old.items ++ Note.Write at v ∷ [])) }
+    ensures room { OnOk result (vec_len notes.new < vec_capacity notes.new) }
+    ensures err_bytes { OnErr result (bytes.new.items ≡ bytes.old.items) }
+    ensures err_notes { OnErr result (notes.new.items ≡ notes.old.items) }
+    ensures err_len { OnErr result (vec_len notes.new ≡ vec_len notes.old) }
+    ensures err_capacity { vec_capacity notes.old ≤ vec_capacity notes.new }
+{
+    notes.reserve(2)?;
+    let copy = new.to_vec(alloc)?;
+    notes.push_reserved(Note::Write(at, copy));
+    bytes[at..at + new.len()].copy_from_slice(new);
+    Ok(())
+}
+
+impl Disk for MemDisk {
+    ghost size = { λ d. length d.bytes.items };
+
+    ghost content = { λ d. Some d.bytes.items };
+
+    ghost may_leave = { λ d c. Images d.first.items (λ e. e ≡ d.first.items) d.notes.items c };
+
+    ghost moment = { λ d. length d.notes.items };
+
+    ghost left_since = { λ d t c. LeftSince d.first.items d.notes.items t c };
+
+    ghost fault_count = { λ d. d.faults };
+
+    ghost honest = { λ d c is. honest_notes d.first.items d.bytes.items d.notes.items c d.kept d.fits is };
+
+    ghost told_whole = { λ d c is. told d.bytes.items c is };
+
+    ghost counts_now = { λ d t c le now. counts_notes d.first.items d.notes.items t c le now };
+
+    ghost only_now = { λ d c left. only_notes d.first.items d.notes.items c left };
+
+    fn len(&self) -> u64 {
+        self.bytes.len() as u64
+    }
+
+    fn faults(&self) -> u64 {
+        self.faults
+    }
+
+    fn read_at(&mut self, at: u64, out: &mut [u8]) -> Result<(), Failed> {
+        if is_to_fail(&mut self.calls, &self.fail) {
+            raise(&mut self.faults);
+            return Err(Failed);
+        }
+        let at = at as usize;
+        out.copy_from_slice(&self.bytes[at..at + out.len()]);
+        Ok(())
+    }
+
+    fn write_at(&mut self, at: u64, bytes: &[u8]) -> Result<(), Failed> {
+        if is_to_fail(&mut self.calls, &self.fail) {
+            raise(&mut self.faults);
+            return Err(Failed);
+        }
+        let at = at as usize;
+        match note_write(self.alloc, &mut self.notes, &mut self.bytes, at, bytes) {
+            Ok(()) => {
+                self.pending = true;
+                Ok(())
+            }
+            Err(_) => {
+                raise(&mut self.lacks);
+                raise(&mut self.faults);
+                Err(Failed)
+            }
+        }
+    }
+
+    fn sync(&mut self) -> Result<(), Failed> {
+        if is_to_fail(&mut self.calls, &self.fail) {
+            raise(&mut self.faults);
+            return Err(Failed);
+        }
+        if self.pending {
+            self.notes.push_reserved(Note::Sync);
+            self.pending = false;
+        }
+        Ok(())
+    }
+}
