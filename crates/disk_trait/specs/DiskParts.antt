@@ -1,7 +1,11 @@
 -- What contracts see of a disk in memory.
-use Rattle.std.specs.Prelude.{ℕ, ◌/◌, ◌%◌, List, [], take, drop, replicate}
-use Rattle.disk_trait.specs.Notes.{content_after, synced_count, after_crash}
+use Rattle.std.specs.Prelude.{◌≡◌, ℕ, ◌+◌, ◌/◌, ◌%◌, ◌++◌, List, [], ◌∷◌, Bool, length, take, drop, replicate, if◌then◌else◌, Vec}
+use Rattle.std.specs.declared.alloc.Global.{Global}
+use Rattle.disk_trait.specs.Causes.{one_more, has_number}
+use Rattle.disk_trait.specs.Disk.{written}
+use Rattle.disk_trait.specs.Notes.{content_after, synced_count, after_crash, Images, LeftSince}
 use Rattle.disk_trait.specs.declared.memory.Note.{Note}
+use Rattle.disk_trait.specs.declared.memory.Note.TheVariants.{Write}
 use Rattle.disk_trait.specs.declared.memory.MemDisk.{MemDisk}
 
 -- the bytes at its beginning, the bytes that it holds, what was done to it, the calls so far, the numbers of
@@ -25,6 +29,36 @@ untouched content failing = record { first = content; content = content; notes =
 -- zero bytes, before the first call
 abbrev pub fresh_disk : ℕ → List ℕ → DiskParts
 fresh_disk size failing = untouched (replicate size 0) failing
+
+-- what a crash now may leave
+abbrev pub images : DiskParts → List ℕ → Type 0
+images d c = Images d.first (λ e. e ≡ d.first) d.notes c
+
+-- what a crash at some moment from that one on might have left
+abbrev pub images_since : DiskParts → ℕ → List ℕ → Type 0
+images_since d t c = LeftSince d.first d.notes t c
+
+-- the next call is one of those that fail
+abbrev pub is_due : DiskParts → Bool
+is_due d = has_number d.failing (one_more d.calls)
+
+-- after one more call, which failed or not
+abbrev pub counted : Bool → DiskParts → DiskParts
+counted failed d = record d { calls = one_more d.calls; faults = if failed then one_more d.faults else d.faults }
+
+-- a write failed: it found no memory, unless it was one of the calls that fail
+abbrev pub refused : DiskParts → DiskParts
+refused d = record d { lacks = if is_due d then d.lacks else one_more d.lacks }
+
+-- these bytes were written at this place, and a note of it was taken
+pub record IsWritten (at : ℕ) (bytes : List ℕ) (old new : DiskParts) : Type 0 where
+  pub content : new.content ≡ written at bytes old.content
+  pub noted : (v : Vec ℕ Global) × (v.items ≡ bytes) × (new.notes ≡ old.notes ++ Write at v ∷ [])
+  pub first : new.first ≡ old.first
+  pub failing : new.failing ≡ old.failing
+  pub calls : new.calls ≡ old.calls
+  pub lacks : new.lacks ≡ old.lacks
+  pub faults : new.faults ≡ old.faults
 
 -- what a sync has made safe
 abbrev pub safe_content : DiskParts → List ℕ

@@ -1,7 +1,8 @@
 //! A disk in memory. It notes each write and each sync, so that what a crash may leave is known.
-ghost use Rattle.std.specs.Prelude.{◌≡◌, ◌≤◌, ◌<◌, ◌+◌, ◌++◌, ◌∷◌, true, false, Some, length, IfOk, OnOk, OnErr, vec_len, vec_capacity, []};
-ghost use Rattle.disk_trait.specs.Disk.{Only, written};
-ghost use Rattle.disk_trait.specs.Notes.{content_after, Images, notes_fit, LeftSince};
+ghost use Rattle.std.specs.Prelude.{◌≡◌, ◌≤◌, ◌<◌, ◌+◌, ◌++◌, ◌∷◌, true, false, Some, length, IfOk, OnOk, OnErr, is_err, List, ℕ, if◌then◌else◌, vec_len, vec_capacity, []};
+ghost use Rattle.disk_trait.specs.Causes.{HasCause, one_more};
+ghost use Rattle.disk_trait.specs.Disk.{Only, written, piece, Torn, Follows, SameImages, IsSynced, TornContent, Elapses};
+ghost use Rattle.disk_trait.specs.Notes.{content_after, Images, notes_fit};
 ghost use Rattle.disk_trait.specs.NoteLaws.{honest_notes, counts_notes, only_notes, told};
 
 use crate::disk::Disk;
@@ -103,15 +104,17 @@ fn note_write(
 }
 
 impl Disk for MemDisk {
-    ghost size = { λ d. length d.bytes.items };
+    ghost use Rattle.disk_trait.specs.DiskParts.{parts_of, images, images_since, is_due, counted, refused, IsWritten};
 
-    ghost content = { λ d. Some d.bytes.items };
+    ghost size = { λ d. length (parts_of d).content };
 
-    ghost may_leave = { λ d c. Images d.first.items (λ e. e ≡ d.first.items) d.notes.items c };
+    ghost content = { λ d. Some (parts_of d).content };
+
+    ghost may_leave = { λ d c. images (parts_of d) c };
 
     ghost moment = { λ d. length d.notes.items };
 
-    ghost left_since = { λ d t c. LeftSince d.first.items d.notes.items t c };
+    ghost left_since = { λ d t c. images_since (parts_of d) t c };
 
     ghost fault_count = { λ d. d.faults };
 
@@ -131,7 +134,17 @@ impl Disk for MemDisk {
         self.faults
     }
 
-    fn read_at(&mut self, at: u64, out: &mut [u8]) -> Result<(), Failed> {
+    fn read_at(&mut self, at: u64, out: &mut [u8]) -> Result<(), Failed>
+        requires { at + length out.old ≤ length (parts_of self.old).content }
+        ensures bytes { OnOk result (out.new ≡ piece at (length out.old) (parts_of self.old).content) }
+        ensures content { Some (parts_of self.new).content ≡ Some (parts_of self.old).content }
+        ensures images { SameImages (images (parts_of self.old)) (images (parts_of self.new)) }
+        ensures size { length (parts_of self.new).content ≡ length (parts_of self.old).content }
+        ensures time { Elapses (length (parts_of self.old).notes) (length (parts_of self.new).notes) (images_since (parts_of self.old)) (images_since (parts_of self.new)) (images (parts_of self.new)) }
+        ensures cause { HasCause (parts_of self.old).faults (parts_of self.new).faults result }
+        ensures fails { is_err result ≡ is_due (parts_of self.old) }
+        ensures parts { parts_of self.new ≡ counted (is_err result) (parts_of self.old) }
+    {
         if is_to_fail(&mut self.calls, &self.fail) {
             raise(&mut self.faults);
             return Err(Failed);
@@ -141,7 +154,18 @@ impl Disk for MemDisk {
         Ok(())
     }
 
-    fn write_at(&mut self, at: u64, bytes: &[u8]) -> Result<(), Failed> {
+    fn write_at(&mut self, at: u64, bytes: &[u8]) -> Result<(), Failed>
+        requires { at + length bytes.now ≤ length (parts_of self.old).content }
+        ensures written { OnOk result (Some (parts_of self.new).content ≡ Some (written at bytes.now (parts_of self.old).content)) }
+        ensures failed { OnErr result (TornContent at (length bytes.now) (Some (parts_of self.old).content) (Some (parts_of self.new).content)) }
+        ensures crash { Follows (Torn at (length bytes.now)) (images (parts_of self.old)) (images (parts_of self.new)) }
+        ensures size { length (parts_of self.new).content ≡ length (parts_of self.old).content }
+        ensures time { Elapses (length (parts_of self.old).notes) (length (parts_of self.new).notes) (images_since (parts_of self.old)) (images_since (parts_of self.new)) (images (parts_of self.new)) }
+        ensures cause { HasCause (parts_of self.old).faults (parts_of self.new).faults result }
+        ensures fails { is_due (parts_of self.old) ≡ true → is_err result ≡ true }
+        ensures done { OnOk result (IsWritten at bytes.now (counted false (parts_of self.old)) (parts_of self.new)) }
+        ensures refused { OnErr result (parts_of self.new ≡ counted true (refused (parts_of self.old))) }
+    {
         if is_to_fail(&mut self.calls, &self.fail) {
             raise(&mut self.faults);
             return Err(Failed);
@@ -160,7 +184,19 @@ impl Disk for MemDisk {
         }
     }
 
-    fn sync(&mut self) -> Result<(), Failed> {
+    fn sync(&mut self) -> Result<(), Failed>
+        ensures durable { OnOk result (IsSynced (Some (parts_of self.new).content) (images (parts_of self.new))) }
+        ensures content { Some (parts_of self.new).content ≡ Some (parts_of self.old).content }
+        ensures crash { (c : List ℕ) → images (parts_of self.new) c → images (parts_of self.old) c }
+        ensures size { length (parts_of self.new).content ≡ length (parts_of self.old).content }
+        ensures time { Elapses (length (parts_of self.old).notes) (length (parts_of self.new).notes) (images_since (parts_of self.old)) (images_since (parts_of self.new)) (images (parts_of self.new)) }
+        ensures cause { HasCause (parts_of self.old).faults (parts_of self.new).faults result }
+        ensures fails { is_err result ≡ is_due (parts_of self.old) }
+        ensures calls { (parts_of self.new).calls ≡ one_more (parts_of self.old).calls }
+        ensures faults { (parts_of self.new).faults ≡ (if is_err result then one_more (parts_of self.old).faults else (parts_of self.old).faults) }
+        ensures failing { (parts_of self.new).failing ≡ (parts_of self.old).failing }
+        ensures lacks { (parts_of self.new).lacks ≡ (parts_of self.old).lacks }
+    {
         if is_to_fail(&mut self.calls, &self.fail) {
             raise(&mut self.faults);
             return Err(Failed);
