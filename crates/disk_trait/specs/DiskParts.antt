@@ -4,8 +4,8 @@ use Rattle.std.specs.declared.alloc.Global.{Global}
 use Rattle.disk_trait.specs.Causes.{one_more, has_number}
 use Rattle.disk_trait.specs.Disk.{written}
 use Rattle.disk_trait.specs.Notes.{content_after, synced_count, after_crash, Images, LeftSince}
-use Rattle.disk_trait.specs.declared.memory.Note.{Note}
-use Rattle.disk_trait.specs.declared.memory.Note.TheVariants.{Write}
+use Rattle.disk_trait.specs.declared.note.Note.{Note}
+use Rattle.disk_trait.specs.declared.note.Note.TheVariants.{Write}
 use Rattle.disk_trait.specs.declared.memory.MemDisk.{MemDisk}
 
 -- the bytes at its beginning, the bytes that it holds, what was done to it, the calls so far, the numbers of

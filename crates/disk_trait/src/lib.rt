@@ -2,9 +2,11 @@
 //! in memory, whose failing calls a test can choose.
 #![tactic(auto)]
 
+mod crash;
 mod disk;
 mod failed;
 mod memory;
+mod note;
 mod sink;
 mod source;
 #[cfg(test)]

@@ -5,19 +5,12 @@ ghost use Rattle.disk_trait.specs.Disk.{Only, written, piece, Torn, Follows, Sam
 ghost use Rattle.disk_trait.specs.Notes.{content_after, Images, notes_fit};
 ghost use Rattle.disk_trait.specs.NoteLaws.{honest_notes, counts_notes, only_notes, told};
 
+use crate::crash::replay;
 use crate::disk::Disk;
 use crate::failed::{Failed, is_to_fail, raise};
+use crate::note::Note;
 use object_graph::Memory;
 use std::alloc::{AllocError, Global};
-
-/// What was done to a disk in memory.
-#[derive(Drop)]
-pub enum Note {
-    /// A write at this place.
-    Write(usize, Vec<u8>),
-    /// A sync.
-    Sync,
-}
 
 /// A disk in memory.
 #[derive(Drop)]
@@ -39,15 +32,22 @@ pub struct MemDisk {
 }
 
 impl MemDisk {
-    ghost use Rattle.disk_trait.specs.DiskParts.{parts_of, fresh_disk};
+    ghost use Rattle.disk_trait.specs.DiskParts.{parts_of, fresh_disk, untouched, outcome_of, images};
 
     /// Zero bytes. `fail` lists the device calls, counted from 1 over all kinds, that are to fail.
     pub fn new(alloc: Global, len: u64, fail: Vec<u64>) -> Result<MemDisk, Memory>
         ensures { IfOk result (λ d. parts_of d ≡ fresh_disk len fail.items) }
     {
-        let Ok(first) = vec![in alloc; 0u8; len as usize] else {
-            return Err(Memory);
-        };
+        match vec![in alloc; 0u8; len as usize] {
+            Ok(first) => MemDisk::holding(alloc, first, fail),
+            Err(_) => Err(Memory),
+        }
+    }
+
+    // These bytes, all of them safe, before the first call.
+    fn holding(alloc: Global, first: Vec<u8>, fail: Vec<u64>) -> Result<MemDisk, Memory>
+        ensures { IfOk result (λ d. parts_of d ≡ untouched first.items fail.items) }
+    {
         let Ok(bytes) = first.clone() else {
             return Err(Memory);
         };
@@ -76,6 +76,29 @@ impl MemDisk {
         ensures { result ≡ (parts_of self.now).lacks }
     {
         self.lacks
+    }
+
+    /// The disk after a crash. With `pick = 3 * j + r` the first j unsynced writes are whole, or all
+    /// where there are fewer. Of the others r = 0 leaves none, r = 1 leaves them whole, and r = 2
+    /// leaves 173 in each of their bytes. The new disk has no failing calls.
+    pub fn crash(self, pick: u64) -> Result<MemDisk, Memory>
+        ensures left { IfOk result (λ d. parts_of d ≡ untouched (outcome_of (parts_of self) pick) []) }
+        ensures image { images (parts_of self) (outcome_of (parts_of self) pick) }
+    {
+        let alloc = self.alloc;
+        let MemDisk {
+            alloc: _,
+            mut first,
+            bytes: _,
+            notes,
+            fail: _,
+            calls: _,
+            lacks: _,
+            faults: _,
+            pending: _,
+        } = self;
+        replay(&mut first, &notes, pick / 3, pick % 3);
+        MemDisk::holding(alloc, first, Vec::new(alloc))
     }
 }
 

@@ -1,7 +1,7 @@
 use Rattle.std.proofs.Common.{◌≡◌, ap, length, subst, List, ℕ, rules, refl}
 use Rattle.disk_trait.specs.Notes.{Images}
-use Rattle.disk_trait.specs.declared.memory.Note.{Note}
-use Rattle.disk_trait.specs.declared.memory.Note.TheVariants.{Write}
+use Rattle.disk_trait.specs.declared.note.Note.{Note}
+use Rattle.disk_trait.specs.declared.note.Note.TheVariants.{Write}
 use Rattle.disk_trait.proofs.NoteSteps.{torn_same, elapses_note, torn_notes, kept_write, fits_after_write}
 use Rattle.disk_trait.proofs.memory.MemDiskDisk.write_at.Goals as goal
 
