@@ -50,16 +50,6 @@ counted failed d = record d { calls = one_more d.calls; faults = if failed then 
 abbrev pub refused : DiskParts → DiskParts
 refused d = record d { lacks = if is_due d then d.lacks else one_more d.lacks }
 
--- these bytes were written at this place, and a note of it was taken
-pub record IsWritten (at : ℕ) (bytes : List ℕ) (old new : DiskParts) : Type 0 where
-  pub content : new.content ≡ written at bytes old.content
-  pub noted : (v : Vec ℕ Global) × (v.items ≡ bytes) × (new.notes ≡ old.notes ++ Write at v ∷ [])
-  pub first : new.first ≡ old.first
-  pub failing : new.failing ≡ old.failing
-  pub calls : new.calls ≡ old.calls
-  pub lacks : new.lacks ≡ old.lacks
-  pub faults : new.faults ≡ old.faults
-
 -- what a sync has made safe
 abbrev pub safe_content : DiskParts → List ℕ
 safe_content d = content_after d.first (take (synced_count d.notes) d.notes)
@@ -67,6 +57,22 @@ safe_content d = content_after d.first (take (synced_count d.notes) d.notes)
 -- the writes since the last sync
 abbrev pub unsynced : DiskParts → List Note
 unsynced d = drop (synced_count d.notes) d.notes
+
+-- these bytes were written at this place, and a note of it was taken
+pub record IsWritten (at : ℕ) (bytes : List ℕ) (old new : DiskParts) : Type 0 where
+  pub content : new.content ≡ written at bytes old.content
+  pub noted : (v : Vec ℕ Global) × (v.items ≡ bytes) × (new.notes ≡ old.notes ++ Write at v ∷ []) × (unsynced new ≡ unsynced old ++ Write at v ∷ [])
+  pub safe : safe_content new ≡ safe_content old
+  pub first : new.first ≡ old.first
+  pub failing : new.failing ≡ old.failing
+  pub calls : new.calls ≡ old.calls
+  pub lacks : new.lacks ≡ old.lacks
+  pub faults : new.faults ≡ old.faults
+
+-- all that it holds is safe
+pub record IsSafe (d : DiskParts) : Type 0 where
+  pub content : safe_content d ≡ d.content
+  pub none : unsynced d ≡ []
 
 -- the bytes after the crash that `pick` picks
 abbrev pub outcome_of : DiskParts → ℕ → List ℕ

@@ -5,6 +5,7 @@
 mod crash;
 mod disk;
 mod failed;
+mod file;
 mod memory;
 mod note;
 mod sink;
@@ -14,6 +15,7 @@ mod tests;
 
 pub use disk::Disk;
 pub use failed::Failed;
+pub use file::FileDisk;
 pub use memory::MemDisk;
 pub use sink::{MemSink, Sink, StdSink};
 pub use source::{MemSource, Source, StdSource};
