@@ -83,4 +83,4 @@ crash_image first notes whole rest fit =
     let parts = fit_parts (length first) (take k notes) (drop k notes) split in
     let long = length-content_after first (take k notes) parts.0 in
     synced.images _ (left_image (content_after first (take k notes)) (λ e. e ≡ content_after first (take k notes)) whole rest (content_after first (take k notes)) (drop k notes)
-      refl synced.none (subst (λ n. notes_fit n (drop k notes) ≡ true) (sym long) parts.1))
+    refl synced.none (subst (λ n. notes_fit n (drop k notes) ≡ true) (sym long) parts.1))
