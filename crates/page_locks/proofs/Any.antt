@@ -9,6 +9,7 @@ use Rattle.std.proofs.lemmas.Nat.Bits.{bit_at_set_same, bit_at_set_other, bit_at
 use Rattle.std.proofs.lemmas.Bool.{cases_eq, cases_Bool, eq-eqb, eqb-true, ne_eqb, or_cases, ltb-true, ltb-false}
 use Rattle.std.proofs.lemmas.List.Folds.{list_any-append}
 use Rattle.std.proofs.lemmas.List.{take_more}
+use Rattle.std.proofs.lemmas.Grind.{get_or_default_zero}
 use Rattle.page_locks.specs.Sets.{in_set}
 use Rattle.page_locks.specs.Blocking.{blocks, smaller_of}
 use Rattle.page_locks.specs.Holding.{numbers, shares, excludes, is_in_way, IsNobody, IsLeast, HaveSameLocks, AddsShared, AddsExclusive, Releases}
@@ -49,17 +50,9 @@ map-set_same f (y ∷ ys) (suc i) x d e = ap (λ zs. f y ∷ zs) (map-set_same f
 
 -- ---- sets of pages
 
-zeros : (n i : ℕ) → ◌≡◌ {A = ℕ} (get_or (replicate n 0) i 0) 0
-zeros zero i = refl
-zeros (suc n) zero = refl
-zeros (suc n) (suc i) = zeros n i
-
-pub in_set-none : (page : ℕ) → in_set (replicate 64 0) page ≡ false
-in_set-none page = ap (λ n. bit_at n (page % 64) == 1) (zeros 64 (page / 64)) ∙ ap (λ n. n == 1) (bit_at-zero (page % 64))
-
-pub in_set-insert : (words : List ℕ) (page p : ℕ) → page / 64 < length words
+in_set-set : (words : List ℕ) (page p : ℕ) → page / 64 < length words
     → in_set (set words (page / 64) (bit_or (get_or words (page / 64) 0) (1 * 2 ^ (page % 64) % 18446744073709551616))) p ≡ (in_set words p || (p == page))
-in_set-insert words page p lt = elim (cases_eq (p / 64) (page / 64)) [
+in_set-set words page p lt = elim (cases_eq (p / 64) (page / 64)) [
   | inl same ↦
       let at : get_or (set words (page / 64) word) (p / 64) 0 ≡ word =
       ap (λ i. get_or (set words (page / 64) word) i 0) same ∙ get_or-set_same words (page / 64) word 0 lt in
@@ -85,6 +78,12 @@ in_set-insert words page p lt = elim (cases_eq (p / 64) (page / 64)) [
 
     k : page % 64 < 64
     k = omega arith
+
+pub in_set-insert : (words : List ℕ) (page p word : ℕ) → page / 64 < length words → word ≡ get_or words (page / 64) word
+    → in_set (set words (page / 64) (bit_or word (1 * 2 ^ (page % 64) % 18446744073709551616))) p ≡ (in_set words p || (p == page))
+in_set-insert words page p word lt is =
+    ap (λ w. in_set (set words (page / 64) (bit_or w (1 * 2 ^ (page % 64) % 18446744073709551616))) p) (is ∙ get_or_default_zero words (page / 64) word lt)
+    ∙ in_set-set words page p lt
 
 -- ---- who is in the way
 
@@ -235,7 +234,7 @@ adds_exclusive held i h new d page lt is t s e = record {
 }
 
 -- without one transaction
-numbers-filter : (gone : ℕ) (held : List Held) → numbers (filter (λ h. not (h.txn == gone)) held) ≡ filter (λ n. not (n == gone)) (numbers held)
+pub numbers-filter : (gone : ℕ) (held : List Held) → numbers (filter (λ h. not (h.txn == gone)) held) ≡ filter (λ n. not (n == gone)) (numbers held)
 numbers-filter gone [] = refl
 numbers-filter gone (h ∷ hs) = one gone h hs (numbers-filter gone hs) (not (h.txn == gone))
   where
@@ -292,6 +291,9 @@ way_step to_write held i h txn page b lt is e = λ other.
     ∙ (way_more to_write (take i held) h txn page other
     ∙ ap (λ c. is_in_way to_write (take i held) txn page other || ((h.txn == other) && c)) e)
 
-pub at_place : (xs : List Held) (i : ℕ) (P : Held → Type 0) (o : Option Held) → slice_get xs i ≡ o → IsSomeAnd o P → (d : Held) → (i < length xs) × P (get_or xs i d)
+at_place : (xs : List Held) (i : ℕ) (P : Held → Type 0) (o : Option Held) → slice_get xs i ≡ o → IsSomeAnd o P → (d : Held) → (i < length xs) × P (get_or xs i d)
 at_place xs i P None e h d = absurd h
 at_place xs i P (Some x) e h d = (slice_get_within xs i x e, subst P (sym (get_or_from_slice_get xs i x d e)) h)
+
+pub found_at : (held : List Held) (at txn : ℕ) (d : Held) → IsSomeAnd (slice_get held at) (λ h. h.txn ≡ txn) → (at < length held) × ((get_or held at d).txn ≡ txn)
+found_at held at txn d found = at_place held at (λ h. h.txn ≡ txn) (slice_get held at) refl found d

@@ -4,7 +4,7 @@ use Rattle.std.proofs.lemmas.Bool.{and_parts, or_cases, cases_Bool, cases_eq, eq
 use Rattle.page_locks.specs.Holding.{shares, excludes, is_in_way, IsNobody, HaveSameLocks, AddsShared, AddsExclusive, Releases, KeepsApart}
 use Rattle.page_locks.specs.declared.locks.Held.{Held}
 
-or_parts : (a b : Bool) → (a || b) ≡ false → (a ≡ false) × (b ≡ false)
+pub or_parts : (a b : Bool) → (a || b) ≡ false → (a ≡ false) × (b ≡ false)
 or_parts true b h = cc
 or_parts false b h = (refl, h)
 

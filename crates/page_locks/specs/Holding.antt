@@ -1,6 +1,6 @@
 -- Who holds which locks.
-use Rattle.std.specs.Prelude.{◌≡◌, ◌≢◌, ℕ, ◌≤◌, Bool, true, false, not, ◌&&◌, ◌||◌, ◌==◌, List, map, filter}
-use Rattle.std.specs.List.{list_any}
+use Rattle.std.specs.Prelude.{◌≡◌, ◌≢◌, ℕ, ◌+◌, ◌*◌, ◌≤◌, Bool, true, false, not, ◌&&◌, ◌||◌, ◌==◌, List, length, map, filter, nat_eq}
+use Rattle.std.specs.List.{list_any, All, IsDistinct}
 use Rattle.page_locks.specs.Sets.{in_set}
 use Rattle.page_locks.specs.declared.locks.Held.{Held}
 
@@ -68,3 +68,23 @@ pub record Releases (old new : List Held) (gone : ℕ) : Type 0 where
   pub admitted : numbers new ≡ filter (λ n. not (n == gone)) (numbers old)
   pub shared : (txn page : ℕ) → shares new txn page ≡ (shares old txn page && not (txn == gone))
   pub exclusive : (txn page : ℕ) → excludes new txn page ≡ (excludes old txn page && not (txn == gone))
+
+-- the sets of these locks have room for the pages below a count
+pub record HasRoom (pages : ℕ) (h : Held) : Type 0 where
+  pub shared : pages ≤ 64 * length h.shared
+  pub exclusive : pages ≤ 64 * length h.exclusive
+
+abbrev pub HaveRoom : ℕ → List Held → Type 0
+HaveRoom pages held = All (HasRoom pages) held
+
+-- no transaction is admitted twice
+abbrev pub AreDistinct : List Held → Type 0
+AreDistinct held = IsDistinct nat_eq (numbers held)
+
+-- a table of those admitted, with the sets that wait for others
+pub record IsTable (pages : ℕ) (held idle : List Held) : Type 0 where
+  pub whole : length held + length idle ≡ most_admitted
+  pub held_room : HaveRoom pages held
+  pub idle_room : HaveRoom pages idle
+  pub distinct : AreDistinct held
+  pub apart : KeepsApart held

@@ -1,9 +1,10 @@
 //! The table of locks.
 ghost use Rattle.std.specs.Prelude.{◌≡◌, ℕ, ◌<◌, ◌≤◌, ◌++◌, ◌∷◌, ◌||◌, [], true, false, IfOk, IfErr, OnOk, OnErr, length};
-ghost use Rattle.page_locks.specs.Sets.{most_pages};
 ghost use Rattle.page_locks.specs.Holding.{most_admitted, numbers, shares, excludes, is_admitted, is_in_way, IsNobody, IsLeast, HaveSameLocks, AddsShared, AddsExclusive, Releases, KeepsApart};
 
-use crate::holders::{add_exclusive, add_shared, drop_holder, is_holder, least_in_way};
+use crate::holders::{
+    add_exclusive, add_shared, drop_holder, idle_holders, is_holder, least_in_way, start,
+};
 use crate::page_set::PageSet;
 use object_graph::Memory;
 use std::alloc::Global;
@@ -22,8 +23,8 @@ pub struct Busy {
     pub holder: u32,
 }
 
-/// The locks of a transaction.
-#[derive(Clone, Copy)]
+/// The locks of a transaction. While it waits for one, its number and its sets mean nothing.
+#[derive(Drop)]
 pub struct Held {
     pub txn: u32,
     pub shared: PageSet,
@@ -32,34 +33,35 @@ pub struct Held {
 
 /// Locks on the pages below a count. Contracts see that count, and who holds what.
 ///
-/// All memory is taken by `new`. No call but `release_all` takes a lock back.
+/// All memory is taken by `new`, for as many transactions as can be admitted. No call but
+/// `release_all` takes a lock back.
 #[derive(Drop)]
 pub struct Locks {
     pages: u32,
     held: Vec<Held>,
+    idle: Vec<Held>,
 }
 
 impl Model for Locks {
-    ghost use Rattle.std.specs.Prelude.{◌≤◌, vec_capacity, vec_len};
-    ghost use Rattle.page_locks.specs.Sets.{most_pages};
-    ghost use Rattle.page_locks.specs.Holding.{most_admitted, LockTable, KeepsApart};
+    ghost use Rattle.std.specs.Prelude.{◌≤◌, vec_capacity};
+    ghost use Rattle.page_locks.specs.Holding.{most_admitted, LockTable, IsTable};
 
     ghost Value = { LockTable };
 
     ghost view = { λ l. record { pages = l.pages; held = l.held.items } };
 
-    ghost invariant = { λ l. (most_admitted ≤ vec_capacity l.held) × (vec_len l.held ≤ most_admitted) × (l.pages ≤ most_pages) × KeepsApart l.held.items };
+    ghost invariant = { λ l. (most_admitted ≤ vec_capacity l.held) × (most_admitted ≤ vec_capacity l.idle) × IsTable l.pages l.held.items l.idle.items };
 }
 
 impl Locks {
     /// No transaction is admitted, and none holds a lock.
     pub fn new(alloc: Global, pages: u32) -> Result<Locks, Memory>
-        requires { pages ≤ most_pages }
         ensures pages { IfOk result (λ locks. locks.pages ≡ pages) }
         ensures empty { IfOk result (λ locks. locks.held ≡ []) }
     {
         let held = Vec::with_capacity(alloc, MOST_ADMITTED)?;
-        Ok(Locks { pages, held })
+        let idle = idle_holders(alloc, MOST_ADMITTED, pages)?;
+        Ok(Locks { pages, held, idle })
     }
 
     /// The count of pages with which the table was made.
@@ -79,17 +81,11 @@ impl Locks {
         ensures unchanged { OnErr result (self.new ≡ self.old) }
         ensures pages { self.new.pages ≡ self.old.pages }
     {
-        if self.held.len() == MOST_ADMITTED {
-            return Err(TooMany);
-        }
-        let held = Held {
-            txn,
-            shared: PageSet::empty(),
-            exclusive: PageSet::empty(),
-        };
-        let Ok(()) = self.held.push(held) else {
+        let Some(mut holder) = self.idle.pop() else {
             return Err(TooMany);
         };
+        start(&mut holder, txn);
+        self.held.push_reserved(holder);
         Ok(())
     }
 
@@ -169,7 +165,7 @@ impl Locks {
         ensures released { Releases self.old.held self.new.held txn }
         ensures pages { self.new.pages ≡ self.old.pages }
     {
-        drop_holder(&mut self.held, txn);
+        drop_holder(&mut self.held, &mut self.idle, txn);
     }
 
     /// Where one holds a page exclusive, nobody else holds it, and whoever asks for what it holds

@@ -1,13 +1,16 @@
 //! Sets of pages.
-ghost use Rattle.std.specs.Prelude.{◌≡◌, ℕ, ◌<◌, ◌||◌, ◌==◌, false};
-ghost use Rattle.page_locks.specs.Sets.{in_set, most_pages};
+ghost use Rattle.std.specs.Prelude.{◌≡◌, ℕ, ◌*◌, ◌<◌, ◌≤◌, ◌||◌, ◌==◌, false, IfOk, length};
+ghost use Rattle.page_locks.specs.Sets.{in_set};
 
+use object_graph::Memory;
+use std::alloc::Global;
 use std::marker::Model;
 
-/// A set of pages 0 to 4,095. Contracts see its words, whose bits are the pages.
-#[derive(Clone, Copy, Debug, PartialEq, Eq)]
+/// A set of pages. Contracts see its words, whose bits are the pages. No call but `empty` takes
+/// memory.
+#[derive(Drop)]
 pub struct PageSet {
-    words: [u64; 64],
+    words: Vec<u64>,
 }
 
 impl Model for PageSet {
@@ -15,30 +18,41 @@ impl Model for PageSet {
 
     ghost Value = { List ℕ };
 
-    ghost view = { λ s. s.words };
-
-    ghost inverse = { λ v. record { words = v } };
+    ghost view = { λ s. s.words.items };
 }
 
 impl PageSet {
-    pub fn empty() -> PageSet
-        ensures { (p : ℕ) → in_set result p ≡ false }
+    /// An empty set with room for the pages below a count.
+    pub fn empty(alloc: Global, pages: u32) -> Result<PageSet, Memory>
+        ensures none { IfOk result (λ set. (p : ℕ) → in_set set p ≡ false) }
+        ensures room { IfOk result (λ set. pages ≤ 64 * length set) }
     {
-        PageSet { words: [0; 64] }
+        let words = vec![in alloc; 0; pages.div_ceil(64) as usize]?;
+        Ok(PageSet { words })
     }
 
     pub fn has(&self, page: u32) -> bool
-        requires { page < most_pages }
         ensures { result ≡ in_set self.now page }
     {
-        (self.words[(page / 64) as usize] >> (page % 64)) & 1 == 1
+        match self.words.get((page / 64) as usize) {
+            Some(word) => (*word >> (page % 64)) & 1 == 1,
+            None => false,
+        }
     }
 
     pub fn insert(&mut self, page: u32)
-        requires { page < most_pages }
-        ensures { (p : ℕ) → in_set self.new p ≡ (in_set self.old p || (p == page)) }
+        requires { page < 64 * length self.old }
+        ensures added { (p : ℕ) → in_set self.new p ≡ (in_set self.old p || (p == page)) }
+        ensures room { length self.new ≡ length self.old }
     {
         let at = (page / 64) as usize;
         self.words[at] = self.words[at] | (1 << (page % 64));
+    }
+
+    pub fn clear(&mut self)
+        ensures none { (p : ℕ) → in_set self.new p ≡ false }
+        ensures room { length self.new ≡ length self.old }
+    {
+        self.words.fill(0);
     }
 }

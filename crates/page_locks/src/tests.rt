@@ -80,3 +80,15 @@ fn sixty_four_are_admitted(rt: HostRuntime) -> Result<(), Fail> {
     assert!(rt; admit(&mut locks, 64));
     Ok(())
 }
+
+#[test]
+fn the_count_of_pages_has_no_bound(rt: HostRuntime) -> Result<(), Fail> {
+    let mut locks = Locks::new(rt.alloc(), 100_000)?;
+    for txn in [1, 2] {
+        assert!(rt; admit(&mut locks, txn));
+    }
+    assert_eq!(rt; ask(&mut locks, Wish::Exclusive(1, 99_999)), None);
+    assert_eq!(rt; ask(&mut locks, Wish::Shared(2, 99_999)), Some(1));
+    assert_eq!(rt; ask(&mut locks, Wish::Exclusive(2, 99_998)), None);
+    Ok(())
+}

@@ -1,14 +1,14 @@
 use Rattle.std.proofs.Common.{◌≡◌, get_or, set, refl, subst}
 use Rattle.page_locks.specs.Holding.{AddsShared}
 use Rattle.page_locks.specs.declared.locks.Held.{Held}
-use Rattle.page_locks.proofs.Any.{at_place, adds_shared}
+use Rattle.page_locks.proofs.Any.{found_at, adds_shared}
 use Rattle.page_locks.proofs.holders.add_shared.Goals as goal
 
-pub returns-in-Some : goal.returns-in-Some
-returns-in-Some c =
+pub returns-in-Some-clause-added : goal.returns-in-Some-clause-added
+returns-in-Some-clause-added c =
     let d : Held = c.index-held-at.result in
     let h : Held = get_or c.args.held.now c.in-Some.at d in
     let new : Held = record h { shared = c.insert.new.self } in
-    let at = at_place c.args.held.now c.in-Some.at (λ h. h.txn ≡ c.args.txn) _ refl c.in-Some.ensures.some d in
+    let at = found_at c.args.held.now c.in-Some.at c.args.txn d c.in-Some.ensures.some in
     subst (λ n. AddsShared c.args.held.now (set c.args.held.now c.in-Some.at new) n c.args.page) at.1
-    (adds_shared c.args.held.now c.in-Some.at h new d c.args.page at.0 refl refl c.insert.ensures refl)
+    (adds_shared c.args.held.now c.in-Some.at h new d c.args.page at.0 refl refl c.insert.ensures.added refl)
