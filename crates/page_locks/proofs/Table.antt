@@ -1,14 +1,14 @@
 -- What each call keeps of a table.
-use Rattle.std.proofs.Common.{◌≡◌, ℕ, zero, suc, ◌+◌, ◌<◌, Bool, true, false, not, cond, ◌==◌, nat_eq, List, [], ◌∷◌, ◌++◌, length, map, filter, remove, get_or, refl, ap, sym, subst, ◌∙◌, arith, length-append}
+use Rattle.std.proofs.Common.{◌≡◌, ℕ, zero, suc, ◌+◌, ◌<◌, Bool, true, false, not, cond, ◌==◌, nat_eq, List, [], ◌∷◌, ◌++◌, length, filter, remove, get_or, refl, ap, sym, subst, ◌∙◌, arith, length-append}
 use Rattle.std.proofs.lemmas.List.{length-map}
-use Rattle.std.specs.List.{list_any, All, AllByRecursion, IsDistinct}
+use Rattle.std.specs.List.{list_any, AllByRecursion, IsDistinct}
 use Rattle.std.specs.Cmp.{nat_eq_equiv}
-use Rattle.std.proofs.lemmas.Bool.{eq-eqb, eqb-true, ne_eqb}
+use Rattle.std.proofs.lemmas.Bool.{eq-eqb}
 use Rattle.std.proofs.lemmas.List.Elements.{All-nil, All-filter, All-push, All-from_recursion, recursion_from_All}
 use Rattle.std.proofs.lemmas.Map.Keys.{IsDistinct-head, IsDistinct-tail, IsDistinct-cons, IsDistinct-push}
-use Rattle.page_locks.specs.Holding.{most_admitted, numbers, is_admitted, is_in_way, IsNobody, KeepsApart, HaveSameLocks, AddsShared, AddsExclusive, Releases, HasRoom, HaveRoom, AreDistinct, IsTable}
+use Rattle.page_locks.specs.Holding.{most_admitted, numbers, is_admitted, is_in_way, IsNobody, HaveSameLocks, AddsShared, AddsExclusive, HasRoom, HaveRoom, AreDistinct, IsTable}
 use Rattle.page_locks.specs.declared.locks.Held.{Held}
-use Rattle.page_locks.proofs.Any.{numbers-append, numbers-filter, admits, releases}
+use Rattle.page_locks.proofs.Any.{numbers-append, numbers-filter, releases}
 use Rattle.page_locks.proofs.Apart.{or_parts, apart_same, apart_shared, apart_exclusive, apart_released}
 
 -- ---- no transaction is admitted twice

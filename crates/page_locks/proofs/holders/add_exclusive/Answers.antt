@@ -1,4 +1,4 @@
-use Rattle.std.proofs.Common.{◌≡◌, get_or, set, refl, subst}
+use Rattle.std.proofs.Common.{get_or, set, refl, subst}
 use Rattle.page_locks.specs.Holding.{AddsExclusive}
 use Rattle.page_locks.specs.declared.locks.Held.{Held}
 use Rattle.page_locks.proofs.Any.{found_at, adds_exclusive}

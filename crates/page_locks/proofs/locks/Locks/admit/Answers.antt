@@ -1,6 +1,6 @@
 use Rattle.std.proofs.Common.{◌≡◌, ◌+◌, List, length, false, Some, ap, sym, subst, ◌∙◌, arith}
 use Rattle.std.proofs.lemmas.List.Elements.{All-pop}
-use Rattle.page_locks.specs.Holding.{LockTable, HasRoom, HaveRoom, IsTable, is_admitted}
+use Rattle.page_locks.specs.Holding.{LockTable, HasRoom, IsTable, is_admitted}
 use Rattle.page_locks.specs.declared.locks.Held.{Held}
 use Rattle.page_locks.proofs.Any.{admits}
 use Rattle.page_locks.proofs.Table.{table_admits}
