@@ -19,7 +19,7 @@ use Rattle.store_model.specs.Lawful.{KeepsLost}
 use Rattle.store_model.specs.Worlds.{is_unfreed, is_old, IsLost}
 use Rattle.store_model.specs.Images.{shown}
 use Rattle.cut_model.specs.States.{State, state_of}
-use Rattle.cut_model.specs.Images.{objects_of}
+use Rattle.store_model.specs.Images.{objects_of}
 use Rattle.cut_model.specs.CutPages.{CutPage, bare_page, settled_image, cut_graph, IsMarked}
 use Rattle.cut_model.specs.Sound.{IsBornRight, IsSound, IsClosedBeside}
 use Rattle.cut_model.specs.Doomed.{IsDoomed, IsSafeToFree, KeepsDoomed}

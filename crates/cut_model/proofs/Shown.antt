@@ -16,8 +16,8 @@ use Rattle.store_model.proofs.Cuts.{below_bound}
 use Rattle.store_model.specs.Worlds.{is_unfreed}
 use Rattle.store_model.specs.Images.{shown_of}
 use Rattle.cut_model.specs.States.{unfreed_at, generation_with, generation_at}
-use Rattle.cut_model.specs.Images.{no_slot, object_in, objects_of}
-use Rattle.cut_model.proofs.Flats.{IsInSlot, in_objects_of, objects_of_in, get-map_below, length-map_below}
+use Rattle.store_model.specs.Images.{no_slot, object_in, objects_of}
+use Rattle.store_model.proofs.Flats.{IsInSlot, in_objects_of, objects_of_in, get-map_below, length-map_below}
 
 -- ---- one object at each place
 

@@ -23,7 +23,7 @@ use Rattle.store_model.specs.Lawful.{IsOrderly}
 use Rattle.store_model.specs.Worlds.{is_unfreed, IsLost}
 use Rattle.store_model.specs.Images.{shown_in, shown}
 use Rattle.cut_model.specs.States.{unfreed_at, generation_with, generation_at, KeepsOpening}
-use Rattle.cut_model.specs.Images.{objects_of}
+use Rattle.store_model.specs.Images.{objects_of}
 use Rattle.cut_model.specs.Sound.{IsSafeObject, IsSafeImage}
 use Rattle.cut_model.proofs.Shown.{in_shown}
 

@@ -3,6 +3,7 @@ pub mod Calls
 pub mod Changes
 pub mod Committed
 pub mod Cuts
+pub mod Flats
 pub mod Grown
 pub mod Parts
 pub mod Images
