@@ -4,6 +4,7 @@ pub mod Changes
 pub mod Committed
 pub mod Cuts
 pub mod Flats
+pub mod FromImages
 pub mod Grown
 pub mod Parts
 pub mod Images
@@ -11,9 +12,11 @@ pub mod Keeps
 pub mod Lists
 pub mod Locks
 pub mod Opened
+pub mod OpenedWorlds
 pub mod Orderly
 pub mod Orders
 pub mod OutOfReach
+pub mod PlacedLists
 pub mod Places
 pub mod Reach
 pub mod Rounds

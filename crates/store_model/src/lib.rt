@@ -4,6 +4,7 @@
 #![tactic(auto)]
 
 mod examples;
+mod from_images;
 mod histories;
 mod lawful;
 mod limits;
@@ -18,6 +19,9 @@ pub use examples::{
     a_sweep_in_doubt_may_be_done, busy_names_the_holder, nothing_is_collected, one_at_a_time,
     phases_come_in_order, refusals_come_in_order, refusals_keep_their_order,
     what_is_born_in_a_cut_outlives_it,
+};
+pub use from_images::{
+    objects_in_use_are_those_of_the_slots, opened_world_is_lawful, opened_world_shows_its_images,
 };
 pub use histories::{
     histories_in_two_parts, is_refused, one_more_event, present_marks_are_of_no_other_cut,

@@ -1,0 +1,8 @@
+use Rattle.store_model.proofs.OpenedWorlds.{used_are_named, objects_used_at}
+use Rattle.store_model.proofs.from_images.objects_in_use_are_those_of_the_slots.Goals as goal
+
+pub returns-clause-named : goal.returns-clause-named
+returns-clause-named c = used_are_named
+
+pub returns-clause-placed : goal.returns-clause-placed
+returns-clause-placed c = objects_used_at

@@ -1,0 +1,27 @@
+//! The world that a store opens to from the images of its pages.
+ghost use Rattle.std.specs.Prelude.{◌≡◌, ℕ, ◌<◌, IsTrue, List, length, slice_index_or, []};
+ghost use Rattle.object_graph.specs.NameParts.{NameParts};
+ghost use Rattle.object_graph.specs.SlotParts.{SlotParts};
+ghost use Rattle.object_graph.specs.Graphs.{has_object, objects_at};
+ghost use Rattle.store_model.specs.Images.{shown, all_shown, objects_in};
+ghost use Rattle.store_model.specs.Lawful.{IsLawful};
+ghost use Rattle.store_model.specs.FromImages.{world_of, slot_in, objects_in_use, names_object, AreImages, has_root, IsWhole};
+
+/// The world that images open to shows them.
+pub fn opened_world_shows_its_images()
+    ensures all { (open_limit commits : ℕ) (images : List (List SlotParts)) → AreImages images → all_shown (world_of open_limit commits images) ≡ images }
+    ensures one { (open_limit commits page : ℕ) (images : List (List SlotParts)) → AreImages images → page < length images
+        → shown (world_of open_limit commits images) page ≡ slice_index_or images page [] }
+{}
+
+/// The world that images open to is lawful where the root is in use and nothing that is reached
+/// refers to what isn't in use.
+pub fn opened_world_is_lawful()
+    ensures { (open_limit commits : ℕ) (images : List (List SlotParts)) → AreImages images → IsTrue (has_root images) → IsWhole images → IsLawful (world_of open_limit commits images) }
+{}
+
+/// The objects in use are those that the slots name, each in its slot.
+pub fn objects_in_use_are_those_of_the_slots()
+    ensures named { (images : List (List SlotParts)) (name : NameParts) → has_object (objects_in_use images) name ≡ names_object images name }
+    ensures placed { (images : List (List SlotParts)) (page slot : ℕ) → objects_at (objects_in_use images) page slot ≡ objects_in page slot (slot_in images page slot) }
+{}
