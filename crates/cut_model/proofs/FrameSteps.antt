@@ -24,13 +24,13 @@ use Rattle.store_model.proofs.Places.{map_of_map, filter_of_map}
 use Rattle.store_model.proofs.Reach.{name-written_by, name-with_writes}
 use Rattle.store_model.specs.Worlds.{is_unfreed}
 use Rattle.store_model.specs.Images.{shown_of, shown_in}
-use Rattle.cut_model.specs.States.{unfreed_at}
+use Rattle.store_model.specs.Images.{unfreed_at}
 use Rattle.store_model.specs.Images.{no_slot}
 use Rattle.cut_model.specs.Frames.{written_slot, written_name, freed_slot}
 use Rattle.store_model.specs.Lawful.{CountsUp, OnlyLastUnfreed, IsLastOfPlace, IsOrderly}
 use Rattle.store_model.proofs.Orders.{lawful_one, placed_one}
 use Rattle.store_model.proofs.Committed.{view_is_orderly}
-use Rattle.cut_model.proofs.Shown.{one_each, in_unfreed_at}
+use Rattle.store_model.proofs.Shown.{one_each, in_unfreed_at}
 use Rattle.store_model.proofs.Flats.{get-map_below, length-map_below}
 use Rattle.store_model.proofs.Places.{objects_at-map}
 use Rattle.cut_model.proofs.Views.{unfreed_at-map}

@@ -1,4 +1,3 @@
-pub mod Shown
 pub mod CutGraphs
 pub mod Safety
 pub mod Views

@@ -14,7 +14,7 @@ use Rattle.store_model.specs.Lawful.{IsPlaced}
 use Rattle.store_model.specs.Worlds.{slots_of, fields_of}
 use Rattle.object_graph.proofs.Members.{In, any_in, in_any, each_in, filter_in}
 use Rattle.object_graph.proofs.Paths.{name_eq_same, has_name_in, has_object_in, in_has_object, reached_more, path_first}
-use Rattle.store_model.proofs.OutOfReach.{unreached_is_out}
+use Rattle.store_model.proofs.OutOfReach.{unreached_is_out, reached_unfreed}
 use Rattle.store_model.specs.Lawful.{KeepsLost}
 use Rattle.store_model.specs.Worlds.{is_unfreed, is_old, IsLost}
 use Rattle.store_model.specs.Images.{shown}
@@ -23,15 +23,8 @@ use Rattle.store_model.specs.Images.{objects_of}
 use Rattle.cut_model.specs.CutPages.{CutPage, bare_page, settled_image, cut_graph, IsMarked}
 use Rattle.cut_model.specs.Sound.{IsBornRight, IsSound, IsClosedBeside}
 use Rattle.cut_model.specs.Doomed.{IsDoomed, IsSafeToFree, KeepsDoomed}
-use Rattle.cut_model.proofs.Shown.{one_each, in_shown, shows_object}
+use Rattle.store_model.proofs.Shown.{one_each, in_shown, shows_object}
 use Rattle.cut_model.proofs.CutGraphs.{settled_in, settled_shown, in_cut_graph, cut_graph_safe}
-
--- what is reached isn't freed
-pub reached_unfreed : (w : World) (name : NameParts) → AllByRecursion (IsOutOfReach w) w.freed → IsReached w name → not (is_freed w name) ≡ true
-reached_unfreed w name freed reached = elim (cases_Bool (is_freed w name)) [
-  | inl e ↦ absurd ((each_in (IsOutOfReach w) w.freed name freed (has_name_in w.freed name e)).0 reached)
-  | inr e ↦ ap not e
-]
 
 -- an unfreed object is in the settled image of its page
 pub settled_has : (w : World) (opening : Opening) (pages : List CutPage) (o : Object) → IsClosedBeside w opening pages → In o w.graph → is_unfreed w.freed o ≡ true

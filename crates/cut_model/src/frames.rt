@@ -11,7 +11,7 @@ ghost use Rattle.store_model.specs.Images.{shown, shown_in, shown_slot};
 ghost use Rattle.store_model.specs.Causes.{has_page};
 ghost use Rattle.store_model.specs.Steps.{writes, makes};
 ghost use Rattle.store_model.specs.Lawful.{CountsUp, OnlyLastUnfreed, IsLawfulTransaction, IsApart, IsOrderly};
-ghost use Rattle.cut_model.specs.States.{unfreed_at};
+ghost use Rattle.store_model.specs.Images.{unfreed_at};
 ghost use Rattle.store_model.specs.Images.{no_slot};
 ghost use Rattle.cut_model.specs.Frames.{written_name, written_slot, freed_slot};
 

@@ -23,6 +23,7 @@ pub mod Rounds
 pub mod Lawfulness
 pub mod Tests
 pub mod Scripts
+pub mod Shown
 pub mod News
 pub mod Spelled
 pub mod CallTexts

@@ -32,6 +32,10 @@ objects_of page image = of_slots (objects_in page) image
 
 -- ---- what is shown of a graph
 
+-- the unfreed objects at a place: one at most
+abbrev pub unfreed_at : List Object → List NameParts → ℕ → ℕ → List Object
+unfreed_at graph freed page slot = filter (is_unfreed freed) (objects_at graph page slot)
+
 -- a slot with these unfreed objects, of which there is one at most, and so many names in all
 abbrev pub slot_with : ℕ → List Object → ℕ → SlotParts
 slot_with fields [] names = record { in_use = false; generation = names; number = 0; refs = replicate fields None }
@@ -40,7 +44,7 @@ slot_with fields (o ∷ os) names = record { in_use = true; generation = o.name.
 -- a slot of a page as a graph has it, of whose names these are freed
 abbrev pub shown_slot : ℕ → List Object → List NameParts → ℕ → ℕ → SlotParts
 shown_slot fields graph freed page slot =
-    slot_with fields (filter (is_unfreed freed) (objects_at graph page slot)) (length (objects_at graph page slot))
+    slot_with fields (unfreed_at graph freed page slot) (length (objects_at graph page slot))
 
 -- the image of a page of so many slots, with so many references in each
 unfoldable pub shown_of : ℕ → ℕ → List Object → List NameParts → ℕ → List SlotParts

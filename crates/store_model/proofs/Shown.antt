@@ -8,15 +8,13 @@ use Rattle.object_graph.specs.SlotParts.{SlotParts}
 use Rattle.object_graph.specs.declared.names.Object.{Object}
 use Rattle.object_graph.specs.Graphs.{is_at, objects_at}
 use Rattle.object_graph.specs.Slots.{below}
-use Rattle.store_model.specs.Images.{slot_with, shown_slot}
+use Rattle.store_model.specs.Images.{no_slot, object_in, objects_of, unfreed_at, slot_with, shown_slot, shown_of}
 use Rattle.store_model.specs.Lawful.{CountsUp, OnlyLastUnfreed}
 use Rattle.object_graph.proofs.Members.{In, in_append, in_filter, filter_in, in_map, map_in, each_in}
 use Rattle.object_graph.proofs.Paths.{name_of}
 use Rattle.store_model.proofs.Cuts.{below_bound}
 use Rattle.store_model.specs.Worlds.{is_unfreed}
-use Rattle.store_model.specs.Images.{shown_of}
-use Rattle.cut_model.specs.States.{unfreed_at, generation_with, generation_at}
-use Rattle.store_model.specs.Images.{no_slot, object_in, objects_of}
+use Rattle.store_model.proofs.Places.{generation_of}
 use Rattle.store_model.proofs.Flats.{IsInSlot, in_objects_of, objects_of_in, get-map_below, length-map_below}
 
 -- ---- one object at each place
@@ -44,9 +42,6 @@ apart_below (suc n) = subst AreApart (sym (map-append suc (below n) (n ∷ [])))
     let b = below_bound n a.0 a.1 in
     let e : suc n ≡ suc a.0 = a.2 in
     omega arith))
-
-abbrev pub generation_of : Object → ℕ
-generation_of o = o.name.generation
 
 one_of : (os : List Object) (a b : Object) → AreApart (map generation_of os) → In a os → In b os → a.name.generation ≡ b.name.generation → a ≡ b
 one_of [] a b h i j e = absurd i
@@ -96,7 +91,8 @@ pub record IsShown (graph : List Object) (freed : List NameParts) (page : ℕ) (
   pub there : In o graph
   pub unfreed : is_unfreed freed o ≡ true
   pub on : o.name.page ≡ page
-  pub generation : o.name.generation ≡ generation_at graph freed o.name.page o.name.slot
+  pub others : List Object
+  pub first : unfreed_at graph freed o.name.page o.name.slot ≡ o ∷ others
 
 slot_shows : (fields : ℕ) (graph : List Object) (freed : List NameParts) (page slot : ℕ) (os : List Object) (o : Object)
     → os ≡ unfreed_at graph freed page slot → (slot_with fields os (length (objects_at graph page slot))).in_use ≡ true
@@ -112,12 +108,12 @@ slot_shows fields graph freed page slot (h ∷ hs) o e u is =
     let n : name_of page slot h.name.generation ≡ h.name =
     ap (λ k. name_of k slot h.name.generation) (sym a) ∙ ap (λ k. name_of h.name.page k h.name.generation) (sym b) in
     let same : o ≡ h = is ∙ ap (λ (n : NameParts). let x : Object = record { name = n; number = h.number; refs = h.refs } in x) n in
-    let gen : h.name.generation ≡ generation_at graph freed page slot = ap (λ os. generation_with os (length (objects_at graph page slot))) e in
     let shown : IsShown graph freed page h = record {
       there = g.0;
       unfreed = p.1;
       on = a;
-      generation = gen ∙ (ap (λ k. generation_at graph freed k slot) (sym a) ∙ ap (λ k. generation_at graph freed h.name.page k) (sym b));
+      others = hs;
+      first = ap (λ k. unfreed_at graph freed k h.name.slot) a ∙ (ap (λ k. unfreed_at graph freed page k) b ∙ sym e);
     } in
     subst (IsShown graph freed page) (sym same) shown
 
