@@ -1,6 +1,6 @@
 -- The world that images open to shows them.
 use Rattle.std.proofs.Common.{◌≡◌, ℕ, zero, suc, ◌-◌, ◌<◌, ◌≤◌, ◌==◌, Bool, true, false, not, cond, List, [], ◌∷◌, ◌++◌, map, length, get_or, replicate, Option, None, refl, sym, ◌∙◌, ap, subst, arith, ◌⊎◌, inl, inr, append-nil, length-append}
-use Rattle.std.specs.List.{filter}
+use Rattle.std.specs.List.{filter, flat_map}
 use Rattle.std.proofs.lemmas.Bool.{cases_Bool, cases_lt, and_from, eq-eqb}
 use Rattle.std.proofs.lemmas.List.{get_or_past, length-map, map-append, ext_get_or}
 use Rattle.std.proofs.lemmas.List.Elements.{filter-append}
@@ -14,11 +14,11 @@ use Rattle.object_graph.proofs.Paths.{has_name_in, in_has_name}
 use Rattle.store_model.specs.Worlds.{World, is_unfreed, new_object, slots_of, fields_of}
 use Rattle.store_model.specs.Images.{no_slot, object_in, objects_in, slot_with, shown_slot, shown_of}
 use Rattle.store_model.specs.Lawful.{CountsUp}
-use Rattle.store_model.specs.FromImages.{slot_in, of_places, freed_count, freed_name, freed_in, placed_in, IsSlot, AreImagesOf}
+use Rattle.store_model.specs.FromImages.{slot_in, of_places, objects_in_use, freed_count, freed_name, freed_in, all_objects_in, IsSlot, AreImagesOf}
 use Rattle.store_model.proofs.Cuts.{below_bound}
 use Rattle.store_model.proofs.Flats.{in_objects_in, length_below, length-map_below, get-map_below}
 use Rattle.store_model.proofs.Places.{map_of_map, generation_of}
-use Rattle.store_model.proofs.PlacedLists.{filter_all, filter_nothing, IsOfPlace, in_places, place_gives, past_slot, past_page, objects_of_place}
+use Rattle.store_model.proofs.PlacedLists.{filter_flat, flat_same, filter_all, filter_nothing, IsOfPlace, in_places, place_gives, past_slot, past_page, objects_of_place}
 
 -- ---- one place
 
@@ -43,7 +43,7 @@ object_at page slot s o m =
     let a = in_objects_in page slot s o m in
     at_place page slot o.name (ap (λ (x : Object). x.name.page) a.1) (ap (λ (x : Object). x.name.slot) a.1)
 
-pub placed_at : (w : World) (page slot : ℕ) (s : SlotParts) (o : Object) → In o (placed_in w page slot s) → is_at page slot o.name ≡ true
+pub placed_at : (w : World) (page slot : ℕ) (s : SlotParts) (o : Object) → In o (all_objects_in w page slot s) → is_at page slot o.name ≡ true
 placed_at w page slot s o m = elim (in_append (map (new_object w) (freed_in page slot s)) (objects_in page slot s) o m) [
   | inr here ↦ object_at page slot s o here
   | inl gone ↦
@@ -64,24 +64,24 @@ last_one (suc n) some =
     let less : suc n - 1 ≡ n = omega arith in
     ap (λ (k : ℕ). map suc (below k) ++ suc n ∷ []) less ∙ sym (map-append suc (below n) (n ∷ []))
 
-abbrev placed_with : World → ℕ → ℕ → SlotParts → Bool → List Object
-placed_with w page slot s used =
+abbrev all_objects_with : World → ℕ → ℕ → SlotParts → Bool → List Object
+all_objects_with w page slot s used =
     map (new_object w) (map (freed_name page slot) (below (cond used (s.generation - 1) s.generation))) ++ cond used (object_in page slot s ∷ []) []
 
 -- a place has the generations up to that of its slot
-pub placed_generations : (w : World) (page slot : ℕ) (s : SlotParts) → (s.in_use ≡ true → 0 < s.generation) → map generation_of (placed_in w page slot s) ≡ map suc (below s.generation)
-placed_generations w page slot s some = by_use s.in_use refl
+pub all_generations : (w : World) (page slot : ℕ) (s : SlotParts) → (s.in_use ≡ true → 0 < s.generation) → map generation_of (all_objects_in w page slot s) ≡ map suc (below s.generation)
+all_generations w page slot s some = by_use s.in_use refl
   where
-    by_use : (used : Bool) → s.in_use ≡ used → map generation_of (placed_with w page slot s used) ≡ map suc (below s.generation)
+    by_use : (used : Bool) → s.in_use ≡ used → map generation_of (all_objects_with w page slot s used) ≡ map suc (below s.generation)
     by_use true e =
         map-append generation_of (map (new_object w) (map (freed_name page slot) (below (s.generation - 1)))) (object_in page slot s ∷ [])
         ∙ ap (λ (l : List ℕ). l ++ s.generation ∷ []) (freed_generations w page slot (s.generation - 1)) ∙ last_one s.generation (some e)
     by_use false e =
         ap (map generation_of) (append-nil (map (new_object w) (map (freed_name page slot) (below s.generation)))) ∙ freed_generations w page slot s.generation
 
-pub length-placed_in : (w : World) (page slot : ℕ) (s : SlotParts) → (s.in_use ≡ true → 0 < s.generation) → length (placed_in w page slot s) ≡ s.generation
-length-placed_in w page slot s some =
-    sym (length-map (placed_in w page slot s) generation_of) ∙ ap length (placed_generations w page slot s some) ∙ length-map (below s.generation) suc ∙ length_below s.generation
+pub length-all_objects_in : (w : World) (page slot : ℕ) (s : SlotParts) → (s.in_use ≡ true → 0 < s.generation) → length (all_objects_in w page slot s) ≡ s.generation
+length-all_objects_in w page slot s some =
+    sym (length-map (all_objects_in w page slot s) generation_of) ∙ ap length (all_generations w page slot s some) ∙ length-map (below s.generation) suc ∙ length_below s.generation
 
 -- the slot that its objects give
 pub slot_again : (fields page slot : ℕ) (s : SlotParts) → IsSlot fields s → slot_with fields (objects_in page slot s) s.generation ≡ s
@@ -98,7 +98,7 @@ slot_again fields page slot s right = by_use s.in_use refl
 
 module _ (w : World) (images : List (List SlotParts)) (right : AreImagesOf (slots_of w) (fields_of w) images) where
   abbrev graph : List Object
-  graph = of_places (placed_in w) images
+  graph = of_places (all_objects_in w) images
 
   abbrev freed : List NameParts
   freed = of_places freed_in images
@@ -117,15 +117,15 @@ module _ (w : World) (images : List (List SlotParts)) (right : AreImagesOf (slot
       by_page (inl p) (inr s) = past s
       by_page (inr p) s = past (subst (λ (l : List SlotParts). length l ≤ slot) (sym (get_or_past images page [] p)) (omega arith))
 
-  pub objects_built : (page slot : ℕ) → objects_at graph page slot ≡ placed_in w page slot (slot_in images page slot)
-  objects_built page slot = objects_of_place (placed_in w) (λ page slot. refl) (placed_at w) images page slot
+  pub objects_built : (page slot : ℕ) → objects_at graph page slot ≡ all_objects_in w page slot (slot_in images page slot)
+  objects_built page slot = objects_of_place (all_objects_in w) (λ page slot. refl) (placed_at w) images page slot
 
   pub names_built : (page slot : ℕ) → length (objects_at graph page slot) ≡ (slot_in images page slot).generation
-  names_built page slot = ap length (objects_built page slot) ∙ length-placed_in w page slot (slot_in images page slot) (slot_named page slot)
+  names_built page slot = ap length (objects_built page slot) ∙ length-all_objects_in w page slot (slot_in images page slot) (slot_named page slot)
 
   pub counts_built : CountsUp graph
   counts_built page slot =
-      ap (map generation_of) (objects_built page slot) ∙ placed_generations w page slot (slot_in images page slot) (slot_named page slot)
+      ap (map generation_of) (objects_built page slot) ∙ all_generations w page slot (slot_in images page slot) (slot_named page slot)
       ∙ ap (λ (n : ℕ). map suc (below n)) (sym (names_built page slot))
 
   -- an object in use isn't freed
@@ -160,6 +160,28 @@ module _ (w : World) (images : List (List SlotParts)) (right : AreImagesOf (slot
       ∙ filter-append (is_unfreed freed) gone here
       ∙ ap (λ (l : List Object). l ++ filter (is_unfreed freed) here) (filter_nothing (is_unfreed freed) gone (freed_gone page slot))
       ∙ filter_all (is_unfreed freed) here (λ o m. ap not (used_unfreed page slot o m))
+
+  -- so the unfreed objects are those in use
+  pub unfreed_are_used : filter (is_unfreed freed) graph ≡ objects_in_use images
+  unfreed_are_used =
+      let test : Object → Bool = is_unfreed freed in
+      let all : ℕ → ℕ → List Object = λ page slot. all_objects_in w page slot (slot_in images page slot) in
+      let here : ℕ → ℕ → List Object = λ page slot. objects_in page slot (slot_in images page slot) in
+      let slots : ℕ → List ℕ = λ page. below (length (get_or images page [])) in
+      filter_flat test (λ (page : ℕ). flat_map (all page) (slots page)) (below (length images))
+      ∙ flat_same (λ (page : ℕ). filter test (flat_map (all page) (slots page))) (λ (page : ℕ). flat_map (here page) (slots page)) (below (length images)) (λ page.
+      filter_flat test (all page) (slots page)
+      ∙ flat_same (λ (slot : ℕ). filter test (all page slot)) (here page) (slots page) (λ slot. sym (ap (filter test) (objects_built page slot)) ∙ unfreed_built page slot))
+
+  -- a freed object is as it was made
+  pub freed_as_made : (o : Object) → In o graph → has_name freed o.name ≡ true → o ≡ new_object w o.name
+  freed_as_made o m is =
+      let p = in_places (all_objects_in w) images o m in
+      let s : SlotParts = slot_in images p.page p.slot in
+      elim (in_append (map (new_object w) (freed_in p.page p.slot s)) (objects_in p.page p.slot s) o p.there) [
+        | inl gone ↦ let a = in_map (new_object w) (freed_in p.page p.slot s) o gone in a.2 ∙ ap (λ (x : Object). new_object w x.name) (sym a.2)
+        | inr here ↦ let f = used_unfreed p.page p.slot o here in absurd cc
+      ]
 
   pub slot_built : (page slot : ℕ) → page < length images → slot < slots_of w page → shown_slot (fields_of w page) graph freed page slot ≡ slot_in images page slot
   slot_built page slot p s =

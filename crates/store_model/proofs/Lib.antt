@@ -3,6 +3,7 @@ pub mod Calls
 pub mod Changes
 pub mod Committed
 pub mod Cuts
+pub mod Fields
 pub mod Flats
 pub mod FromImages
 pub mod Grown
@@ -24,6 +25,7 @@ pub mod Lawfulness
 pub mod Tests
 pub mod Scripts
 pub mod Shown
+pub mod ShownWorlds
 pub mod News
 pub mod Spelled
 pub mod CallTexts

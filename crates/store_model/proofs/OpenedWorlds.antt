@@ -1,8 +1,9 @@
 -- The world that images open to is lawful, and the objects in use are those that the slots name.
-use Rattle.std.proofs.Common.{◌≡◌, ℕ, ◌<◌, Bool, true, false, ◌&&◌, ◌==◌, not, List, [], ◌∷◌, map, length, get_or, Some, refl, sym, ◌∙◌, ap, subst, arith, inl, inr}
+use Rattle.std.proofs.Common.{◌≡◌, ℕ, ◌<◌, Bool, true, false, ◌&&◌, ◌==◌, not, List, [], ◌∷◌, map, length, get_or, Option, Some, None, refl, sym, ◌∙◌, ap, subst, arith, inl, inr}
 use Rattle.std.specs.Bool.{IsTrue}
 use Rattle.std.specs.List.{list_any, filter, AllByRecursion}
 use Rattle.std.proofs.lemmas.Bool.{cases_Bool, and_parts, and_from, eq-eqb, eqb-true}
+use Rattle.std.proofs.lemmas.List.{length-replicate}
 use Rattle.object_graph.specs.NameParts.{NameParts}
 use Rattle.object_graph.specs.SlotParts.{SlotParts}
 use Rattle.object_graph.specs.Names.{root_name, name_eq}
@@ -12,9 +13,10 @@ use Rattle.object_graph.proofs.Members.{In, any_in, in_any, each_from, in_append
 use Rattle.object_graph.proofs.Paths.{name_of, has_name_in, in_has_name, has_object_in, in_has_object, is_to_same, reached_more}
 use Rattle.store_model.specs.Worlds.{World, slots_of, fields_of, starts, is_unfreed, new_object, IsOutOfReach}
 use Rattle.store_model.specs.Images.{object_in, objects_in, shown, all_shown}
-use Rattle.store_model.specs.Lawful.{IsPlaced, RefersWithin, OnlyLastUnfreed, IsLastOfPlace, IsOrderly, IsLawful}
-use Rattle.store_model.specs.FromImages.{slot_in, of_places, objects_in_use, names_object, freed_in, placed_in, bare_world, world_of, AreImagesOf, AreImages, has_root, IsWhole}
+use Rattle.store_model.specs.Lawful.{IsPlaced, HaveFields, RefersWithin, OnlyLastUnfreed, IsLastOfPlace, IsOrderly, IsLawful}
+use Rattle.store_model.specs.FromImages.{slot_in, of_places, objects_in_use, is_name_in_use, freed_in, all_objects_in, bare_world, world_of, AreImagesOf, AreImages, has_root, IsWhole}
 use Rattle.store_model.proofs.Committed.{path_last}
+use Rattle.store_model.proofs.Fields.{HasFields}
 use Rattle.store_model.proofs.Flats.{in_objects_in, objects_in_in}
 use Rattle.store_model.proofs.PlacedLists.{in_places, place_gives, objects_of_place}
 use Rattle.store_model.proofs.FromImages.{at_place, object_at, placed_at, names_built, counts_built, used_unfreed, unfreed_built, page_built, images_built}
@@ -25,17 +27,17 @@ use Rattle.store_model.proofs.Reach.{none_only}
 pub objects_used_at : (images : List (List SlotParts)) (page slot : ℕ) → objects_at (objects_in_use images) page slot ≡ objects_in page slot (slot_in images page slot)
 objects_used_at images page slot = objects_of_place objects_in (λ page slot. refl) object_at images page slot
 
-pub used_named : (images : List (List SlotParts)) (name : NameParts) → has_object (objects_in_use images) name ≡ true → names_object images name ≡ true
+pub used_named : (images : List (List SlotParts)) (name : NameParts) → has_object (objects_in_use images) name ≡ true → is_name_in_use images name ≡ true
 used_named images name h =
     let a = has_object_in (objects_in_use images) name h in
     let p = in_places objects_in images a.0 a.1 in
     let b = in_objects_in p.page p.slot (slot_in images p.page p.slot) a.0 p.there in
     let named : name ≡ name_of p.page p.slot (slot_in images p.page p.slot).generation = sym a.2 ∙ ap (λ (o : Object). o.name) b.1 in
-    subst (λ (n : NameParts). names_object images n ≡ true) (sym named)
+    subst (λ (n : NameParts). is_name_in_use images n ≡ true) (sym named)
     (and_from (slot_in images p.page p.slot).in_use ((slot_in images p.page p.slot).generation == (slot_in images p.page p.slot).generation) b.0
     (eq-eqb (slot_in images p.page p.slot).generation (slot_in images p.page p.slot).generation refl))
 
-pub named_used : (images : List (List SlotParts)) (name : NameParts) → names_object images name ≡ true → has_object (objects_in_use images) name ≡ true
+pub named_used : (images : List (List SlotParts)) (name : NameParts) → is_name_in_use images name ≡ true → has_object (objects_in_use images) name ≡ true
 named_used images name h =
     let s : SlotParts = slot_in images name.page name.slot in
     let a = and_parts s.in_use (s.generation == name.generation) h in
@@ -43,8 +45,8 @@ named_used images name h =
     let m : In o (objects_in_use images) = place_gives objects_in (λ page slot. refl) images name.page name.slot o (objects_in_in name.page name.slot s a.0) in
     subst (λ (n : NameParts). has_object (objects_in_use images) n ≡ true) (ap (name_of name.page name.slot) (eqb-true s.generation name.generation a.1)) (in_has_object (objects_in_use images) o m)
 
-pub used_are_named : (images : List (List SlotParts)) (name : NameParts) → has_object (objects_in_use images) name ≡ names_object images name
-used_are_named images name = elim (cases_Bool (names_object images name)) [
+pub used_are_named : (images : List (List SlotParts)) (name : NameParts) → has_object (objects_in_use images) name ≡ is_name_in_use images name
+used_are_named images name = elim (cases_Bool (is_name_in_use images name)) [
   | inl t ↦ named_used images name t ∙ sym t
   | inr f ↦ elim (cases_Bool (has_object (objects_in_use images) name)) [
     | inr e ↦ e ∙ sym f
@@ -56,7 +58,7 @@ used_are_named images name = elim (cases_Bool (names_object images name)) [
 
 module _ (w : World) (images : List (List SlotParts)) (right : AreImagesOf (slots_of w) (fields_of w) images) where
   abbrev graph : List Object
-  graph = of_places (placed_in w) images
+  graph = of_places (all_objects_in w) images
 
   abbrev freed : List NameParts
   freed = of_places freed_in images
@@ -66,7 +68,7 @@ module _ (w : World) (images : List (List SlotParts)) (right : AreImagesOf (slot
 
   pub names_placed : AllByRecursion (λ o. IsPlaced (length images) (slots_of w) o.name) graph
   names_placed = each_from (λ (o : Object). IsPlaced (length images) (slots_of w) o.name) graph (λ o m.
-      let p = in_places (placed_in w) images o m in
+      let p = in_places (all_objects_in w) images o m in
       let at = and_parts (o.name.page == p.page) (o.name.slot == p.slot) (placed_at w p.page p.slot (slot_in images p.page p.slot) o p.there) in
       let page : p.page ≡ o.name.page = sym (eqb-true o.name.page p.page at.0) in
       let slot : p.slot ≡ o.name.slot = sym (eqb-true o.name.slot p.slot at.1) in
@@ -87,9 +89,9 @@ module _ (w : World) (images : List (List SlotParts)) (right : AreImagesOf (slot
   freed_are_there = each_from (λ (name : NameParts). IsTrue (has_object graph name)) freed (λ name m.
       let p = in_places freed_in images name m in
       let s : SlotParts = slot_in images p.page p.slot in
-      let there : In (new_object w name) (placed_in w p.page p.slot s) =
+      let there : In (new_object w name) (all_objects_in w p.page p.slot s) =
       append_left (map (new_object w) (freed_in p.page p.slot s)) (objects_in p.page p.slot s) (new_object w name) (map_in (new_object w) (freed_in p.page p.slot s) name p.there) in
-      in_has_object graph (new_object w name) (place_gives (placed_in w) (λ page slot. refl) images p.page p.slot (new_object w name) there))
+      in_has_object graph (new_object w name) (place_gives (all_objects_in w) (λ page slot. refl) images p.page p.slot (new_object w name) there))
 
   -- what is in use is unfreed
   pub used_is_unfreed : (name : NameParts) → has_object used name ≡ true → (has_object graph name ≡ true) × (has_name freed name ≡ false)
@@ -98,7 +100,7 @@ module _ (w : World) (images : List (List SlotParts)) (right : AreImagesOf (slot
       let p = in_places objects_in images a.0 a.1 in
       let s : SlotParts = slot_in images p.page p.slot in
       let there : In a.0 graph =
-      place_gives (placed_in w) (λ page slot. refl) images p.page p.slot a.0 (append_right (map (new_object w) (freed_in p.page p.slot s)) (objects_in p.page p.slot s) a.0 p.there) in (
+      place_gives (all_objects_in w) (λ page slot. refl) images p.page p.slot a.0 (append_right (map (new_object w) (freed_in p.page p.slot s)) (objects_in p.page p.slot s) a.0 p.there) in (
         subst (λ (n : NameParts). has_object graph n ≡ true) a.2 (in_has_object graph a.0 there),
         subst (λ (n : NameParts). has_name freed n ≡ false) a.2 (used_unfreed w images right p.page p.slot a.0 p.there),
       )
@@ -108,7 +110,7 @@ module _ (w : World) (images : List (List SlotParts)) (right : AreImagesOf (slot
   refers_used from to h =
       let test : Object → Bool = λ o. name_eq o.name from && list_any (is_to to) o.refs in
       let a = any_in test graph h in
-      let p = in_places (placed_in w) images a.0 a.1 in
+      let p = in_places (all_objects_in w) images a.0 a.1 in
       let s : SlotParts = slot_in images p.page p.slot in
       elim (in_append (map (new_object w) (freed_in p.page p.slot s)) (objects_in p.page p.slot s) a.0 p.there) [
         | inr here ↦ in_any test used a.0 (place_gives objects_in (λ page slot. refl) images p.page p.slot a.0 here) a.2
@@ -152,7 +154,23 @@ module _ (w : World) (images : List (List SlotParts)) (right : AreImagesOf (slot
         let a = used_is_unfreed root_name (named_used images root_name root) in
         and_from (has_object graph root_name) (not (has_name freed root_name)) a.0 (ap not a.1)
 
+  pub built_has_fields : HaveFields (fields_of w) graph
+  built_has_fields = each_from (HasFields (fields_of w)) graph (λ o m.
+      let p = in_places (all_objects_in w) images o m in
+      let s : SlotParts = slot_in images p.page p.slot in
+      let right_slot = right.slots p.page p.slot p.page_within (subst (λ (n : ℕ). p.slot < n) (right.count p.page p.page_within) p.slot_within) in
+      elim (in_append (map (new_object w) (freed_in p.page p.slot s)) (objects_in p.page p.slot s) o p.there) [
+        | inl gone ↦
+            let a = in_map (new_object w) (freed_in p.page p.slot s) o gone in
+            let none : Option NameParts = None in
+            subst (HasFields (fields_of w)) (sym a.2) (length-replicate (fields_of w a.0.page) none)
+        | inr here ↦ subst (HasFields (fields_of w)) (sym (in_objects_in p.page p.slot s o here).1) right_slot.width
+      ])
+
 -- ---- the world
+
+pub opened_has_fields : (open_limit commits : ℕ) (images : List (List SlotParts)) → AreImages images → HaveFields (fields_of (world_of open_limit commits images)) (world_of open_limit commits images).graph
+opened_has_fields open_limit commits images right = built_has_fields (bare_world open_limit commits (length images)) images right
 
 pub opened_shows : (open_limit commits : ℕ) (images : List (List SlotParts)) → AreImages images → all_shown (world_of open_limit commits images) ≡ images
 opened_shows open_limit commits images right = images_built (bare_world open_limit commits (length images)) images right

@@ -50,6 +50,10 @@ flat_one {B} f (suc n) k others past =
     by_case again (inr e) =
         ap (λ (l : List B). flat_map f (below n) ++ (l ++ [])) (others n (omega arith) e) ∙ append-nil (flat_map f (below n)) ∙ again (λ le. past (omega (arith, le, e)))
 
+pub flat_same : {A B : Type 0} (f g : A → List B) (xs : List A) → ((x : A) → f x ≡ g x) → flat_map f xs ≡ flat_map g xs
+flat_same f g [] h = refl
+flat_same {A} {B} f g (x ∷ xs) h = ap (λ (l : List B). l ++ flat_map f xs) (h x) ∙ ap (λ (l : List B). g x ++ l) (flat_same f g xs h)
+
 -- ---- what slots and places give
 
 pub in_slots : {A : Type 0} (f : ℕ → SlotParts → List A) (image : List SlotParts) (y : A) → In y (of_slots f image)
@@ -71,6 +75,13 @@ in_places f images y m =
     let a = in_flat (λ (page : ℕ). of_slots (f page) (get_or images page [])) (below (length images)) y m in
     let b = in_slots (f a.0) (get_or images a.0 []) y a.2 in
     record { page = a.0; slot = b.0; page_within = below_bound (length images) a.0 a.1; slot_within = b.1; there = b.2 }
+
+-- no place gives anything
+pub places_nothing : {A : Type 0} (f : ℕ → ℕ → SlotParts → List A) (images : List (List SlotParts))
+    → ((page slot : ℕ) → page < length images → slot < length (get_or images page []) → f page slot (slot_in images page slot) ≡ []) → of_places f images ≡ []
+places_nothing f images h =
+    flat_nothing (λ (page : ℕ). of_slots (f page) (get_or images page [])) (length images) (λ page p.
+    flat_nothing (λ (slot : ℕ). f page slot (slot_in images page slot)) (length (get_or images page [])) (λ slot s. h page slot p s))
 
 -- a place past the last gives nothing
 module _ {A : Type 0} (f : ℕ → ℕ → SlotParts → List A) (none : (page slot : ℕ) → f page slot no_slot ≡ []) (images : List (List SlotParts)) where

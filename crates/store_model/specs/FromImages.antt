@@ -25,12 +25,12 @@ abbrev pub objects_in_use : List (List SlotParts) → List Object
 objects_in_use images = of_places objects_in images
 
 -- the slot is in use under this generation
-abbrev pub is_in_use : SlotParts → ℕ → Bool
-is_in_use s generation = s.in_use && (s.generation == generation)
+abbrev pub is_in_use_under : SlotParts → ℕ → Bool
+is_in_use_under s generation = s.in_use && (s.generation == generation)
 
 -- the name is that of an object in use
-abbrev pub names_object : List (List SlotParts) → NameParts → Bool
-names_object images name = is_in_use (slot_in images name.page name.slot) name.generation
+abbrev pub is_name_in_use : List (List SlotParts) → NameParts → Bool
+is_name_in_use images name = is_in_use_under (slot_in images name.page name.slot) name.generation
 
 -- ---- the world that is opened
 
@@ -46,8 +46,8 @@ abbrev pub freed_in : ℕ → ℕ → SlotParts → List NameParts
 freed_in page slot s = map (freed_name page slot) (below (freed_count s))
 
 -- all objects of a place, oldest first: the freed ones as they were made, then the one in use
-abbrev pub placed_in : World → ℕ → ℕ → SlotParts → List Object
-placed_in w page slot s = map (new_object w) (freed_in page slot s) ++ objects_in page slot s
+abbrev pub all_objects_in : World → ℕ → ℕ → SlotParts → List Object
+all_objects_in w page slot s = map (new_object w) (freed_in page slot s) ++ objects_in page slot s
 
 -- a store of so many pages, before anything is in it
 abbrev pub bare_world : ℕ → ℕ → ℕ → World
@@ -66,7 +66,7 @@ bare_world open_limit commits pages = record {
 
 -- a world with the objects and the freed names of these images
 abbrev pub with_images : World → List (List SlotParts) → World
-with_images w images = record w { graph = of_places (placed_in w) images; freed = of_places freed_in images }
+with_images w images = record w { graph = of_places (all_objects_in w) images; freed = of_places freed_in images }
 
 -- the world that a store with these images and so many commits opens to
 abbrev pub world_of : ℕ → ℕ → List (List SlotParts) → World
@@ -91,7 +91,7 @@ AreImages images = AreImagesOf (slots_of (world_of 0 0 images)) (fields_of (worl
 
 -- the root is in use
 abbrev pub has_root : List (List SlotParts) → Bool
-has_root images = names_object images root_name
+has_root images = is_name_in_use images root_name
 
 -- what is reached from the root through objects in use refers to objects in use only
 abbrev pub IsWhole : List (List SlotParts) → Type 0

@@ -3,9 +3,10 @@ ghost use Rattle.std.specs.Prelude.{◌≡◌, ℕ, ◌<◌, IsTrue, List, lengt
 ghost use Rattle.object_graph.specs.NameParts.{NameParts};
 ghost use Rattle.object_graph.specs.SlotParts.{SlotParts};
 ghost use Rattle.object_graph.specs.Graphs.{has_object, objects_at};
+ghost use Rattle.store_model.specs.Worlds.{World, fields_of};
 ghost use Rattle.store_model.specs.Images.{shown, all_shown, objects_in};
-ghost use Rattle.store_model.specs.Lawful.{IsLawful};
-ghost use Rattle.store_model.specs.FromImages.{world_of, slot_in, objects_in_use, names_object, AreImages, has_root, IsWhole};
+ghost use Rattle.store_model.specs.Lawful.{IsLawful, HaveFields};
+ghost use Rattle.store_model.specs.FromImages.{world_of, slot_in, objects_in_use, is_name_in_use, AreImages, has_root, IsWhole};
 
 /// The world that images open to shows them.
 pub fn opened_world_shows_its_images()
@@ -22,6 +23,14 @@ pub fn opened_world_is_lawful()
 
 /// The objects in use are those that the slots name, each in its slot.
 pub fn objects_in_use_are_those_of_the_slots()
-    ensures named { (images : List (List SlotParts)) (name : NameParts) → has_object (objects_in_use images) name ≡ names_object images name }
+    ensures named { (images : List (List SlotParts)) (name : NameParts) → has_object (objects_in_use images) name ≡ is_name_in_use images name }
     ensures placed { (images : List (List SlotParts)) (page slot : ℕ) → objects_at (objects_in_use images) page slot ≡ objects_in page slot (slot_in images page slot) }
+{}
+
+/// A lawful world shows images that a store may have, with the root in use and nothing that is
+/// reached referring to what isn't in use.
+pub fn lawful_worlds_show_images_of_a_store()
+    ensures images { (w : World) → IsLawful w → HaveFields (fields_of w) w.graph → AreImages (all_shown w) }
+    ensures root { (w : World) → IsLawful w → IsTrue (has_root (all_shown w)) }
+    ensures whole { (w : World) → IsLawful w → IsWhole (all_shown w) }
 {}
