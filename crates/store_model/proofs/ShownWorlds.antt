@@ -1,5 +1,5 @@
 -- A lawful world shows images that a store may have.
-use Rattle.std.proofs.Common.{◌≡◌, ℕ, zero, suc, ◌<◌, ◌==◌, ◌&&◌, Bool, true, false, not, List, [], ◌∷◌, map, length, get_or, Option, None, replicate, refl, sym, ◌∙◌, ap, subst, arith, inl, inr}
+use Rattle.std.proofs.Common.{◌≡◌, ◌↔◌, ℕ, zero, suc, ◌<◌, ◌==◌, ◌&&◌, Bool, true, false, not, List, [], ◌∷◌, map, length, get_or, Option, None, replicate, refl, sym, ◌∙◌, ap, subst, arith, inl, inr}
 use Rattle.std.specs.Bool.{IsTrue}
 use Rattle.std.specs.List.{list_any, filter}
 use Rattle.std.proofs.lemmas.Bool.{and_parts, eqb-true}
@@ -10,9 +10,9 @@ use Rattle.object_graph.specs.Names.{root_name, name_eq}
 use Rattle.object_graph.specs.declared.names.Object.{Object}
 use Rattle.object_graph.specs.Graphs.{has_name, has_object, is_at, is_to, refers, objects_at, IsPath, IsReachedFrom}
 use Rattle.object_graph.specs.Slots.{below}
-use Rattle.object_graph.proofs.Members.{In, any_in, in_any, in_filter, in_map, map_in, each_in}
+use Rattle.object_graph.proofs.Members.{In, any_in, in_any, in_filter, filter_in, in_map, map_in, each_in}
 use Rattle.object_graph.proofs.Paths.{has_object_in, in_has_object, reached_more}
-use Rattle.store_model.specs.Worlds.{World, slots_of, fields_of, starts, is_freed, is_unfreed}
+use Rattle.store_model.specs.Worlds.{World, slots_of, fields_of, starts, unfreed, is_freed, is_unfreed}
 use Rattle.store_model.specs.Images.{no_slot, unfreed_at, slot_with, shown_slot, shown_of, shown, all_shown, objects_of}
 use Rattle.store_model.specs.Lawful.{IsPlaced, HaveFields, CountsUp, IsOrderly, IsLawful}
 use Rattle.store_model.specs.FromImages.{slot_in, objects_in_use, IsSlot, AreImagesOf, has_root, IsWhole}
@@ -67,6 +67,12 @@ shown_used w o lawful there unfreed =
     let within : page < length images = subst (λ (n : ℕ). page < n) (sym (length-map_below (shown w) w.pages)) at.0 in
     flat_in (λ (page : ℕ). objects_of page (get_or images page [])) (below (length images)) page o (in_below (length images) page within)
     (subst (λ (image : List SlotParts). In o (objects_of page image)) (sym (page_shown w page at.0)) m)
+
+pub unfreed_are_shown : (w : World) (o : Object) → IsOrderly w → In o (unfreed w) ↔ In o (objects_in_use (all_shown w))
+unfreed_are_shown w o lawful = (
+  λ m. let a = in_filter (is_unfreed w.freed) w.graph o m in shown_used w o lawful a.0 a.1,
+  λ m. let s = used_shown w o m in filter_in (is_unfreed w.freed) w.graph o s.there s.unfreed,
+)
 
 pub name_used : (w : World) (name : NameParts) → IsOrderly w → has_object w.graph name ≡ true → not (is_freed w name) ≡ true → has_object (objects_in_use (all_shown w)) name ≡ true
 name_used w name lawful there unfreed =

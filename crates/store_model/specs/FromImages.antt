@@ -1,5 +1,5 @@
 -- The world that a store opens to from the images of its pages, and which images a store may have.
-use Rattle.std.specs.Prelude.{◌≡◌, ℕ, suc, ◌-◌, ◌<◌, Bool, true, false, ◌&&◌, ◌==◌, None, List, [], ◌∷◌, ◌++◌, map, length, replicate, slice_index_or, if◌then◌else◌}
+use Rattle.std.specs.Prelude.{◌≡◌, ℕ, suc, ◌-◌, ◌<◌, Bool, true, false, ◌&&◌, ◌==◌, None, List, [], ◌∷◌, ◌++◌, map, length, replicate, slice_index_or, if◌then◌else◌, nat_lt, nat_le}
 use Rattle.std.specs.List.{flat_map}
 use Rattle.object_graph.specs.NameParts.{NameParts}
 use Rattle.object_graph.specs.SlotParts.{SlotParts}
@@ -31,6 +31,10 @@ is_in_use_under s generation = s.in_use && (s.generation == generation)
 -- the name is that of an object in use
 abbrev pub is_name_in_use : List (List SlotParts) → NameParts → Bool
 is_name_in_use images name = is_in_use_under (slot_in images name.page name.slot) name.generation
+
+-- the name is one of those that were ever given: at each place generations 1 to the stored one
+abbrev pub was_given : List (List SlotParts) → NameParts → Bool
+was_given images name = nat_lt 0 name.generation && nat_le name.generation (slot_in images name.page name.slot).generation
 
 -- ---- the world that is opened
 

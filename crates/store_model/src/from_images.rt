@@ -1,18 +1,33 @@
 //! The world that a store opens to from the images of its pages.
-ghost use Rattle.std.specs.Prelude.{◌≡◌, ℕ, ◌<◌, IsTrue, List, length, slice_index_or, []};
+ghost use Rattle.std.specs.Prelude.{◌≡◌, ◌↔◌, ℕ, ◌<◌, ◌&&◌, not, IsTrue, List, length, slice_index_or, []};
 ghost use Rattle.object_graph.specs.NameParts.{NameParts};
 ghost use Rattle.object_graph.specs.SlotParts.{SlotParts};
+ghost use Rattle.object_graph.specs.declared.names.Object.{Object};
+ghost use Rattle.object_graph.specs.Members.{In};
 ghost use Rattle.object_graph.specs.Graphs.{has_object, objects_at};
-ghost use Rattle.store_model.specs.Worlds.{World, fields_of};
+ghost use Rattle.store_model.specs.Worlds.{World, fields_of, is_freed, new_object, unfreed};
 ghost use Rattle.store_model.specs.Images.{shown, all_shown, objects_in};
 ghost use Rattle.store_model.specs.Lawful.{IsLawful, HaveFields};
-ghost use Rattle.store_model.specs.FromImages.{world_of, slot_in, objects_in_use, is_name_in_use, AreImages, has_root, IsWhole};
+ghost use Rattle.store_model.specs.FromImages.{world_of, slot_in, objects_in_use, is_name_in_use, was_given, AreImages, has_root, IsWhole};
 
 /// The world that images open to shows them.
 pub fn opened_world_shows_its_images()
     ensures all { (open_limit commits : ℕ) (images : List (List SlotParts)) → AreImages images → all_shown (world_of open_limit commits images) ≡ images }
     ensures one { (open_limit commits page : ℕ) (images : List (List SlotParts)) → AreImages images → page < length images
         → shown (world_of open_limit commits images) page ≡ slice_index_or images page [] }
+{}
+
+/// The world that images open to has their objects in use, with their fields; of each place the
+/// names up to the stored generation; and freed are those that no object in use has, of which
+/// nothing is kept.
+pub fn opened_world_has_what_its_images_have()
+    ensures in_use { (open_limit commits : ℕ) (images : List (List SlotParts)) → AreImages images → unfreed (world_of open_limit commits images) ≡ objects_in_use images }
+    ensures names { (open_limit commits : ℕ) (images : List (List SlotParts)) (name : NameParts) → AreImages images
+        → has_object (world_of open_limit commits images).graph name ≡ was_given images name }
+    ensures freed { (open_limit commits : ℕ) (images : List (List SlotParts)) (name : NameParts) → AreImages images
+        → is_freed (world_of open_limit commits images) name ≡ (was_given images name && not (is_name_in_use images name)) }
+    ensures blank { (open_limit commits : ℕ) (images : List (List SlotParts)) (o : Object) → AreImages images → In o (world_of open_limit commits images).graph
+        → IsTrue (is_freed (world_of open_limit commits images) o.name) → o ≡ new_object (world_of open_limit commits images) o.name }
 {}
 
 /// The world that images open to is lawful where the root is in use and nothing that is reached
@@ -27,10 +42,11 @@ pub fn objects_in_use_are_those_of_the_slots()
     ensures placed { (images : List (List SlotParts)) (page slot : ℕ) → objects_at (objects_in_use images) page slot ≡ objects_in page slot (slot_in images page slot) }
 {}
 
-/// A lawful world shows images that a store may have, with the root in use and nothing that is
-/// reached referring to what isn't in use.
+/// A lawful world shows images that a store may have, in which its unfreed objects are in use, with
+/// the root among them and nothing that is reached referring to what isn't in use.
 pub fn lawful_worlds_show_images_of_a_store()
     ensures images { (w : World) → IsLawful w → HaveFields (fields_of w) w.graph → AreImages (all_shown w) }
+    ensures in_use { (w : World) (o : Object) → IsLawful w → In o (unfreed w) ↔ In o (objects_in_use (all_shown w)) }
     ensures root { (w : World) → IsLawful w → IsTrue (has_root (all_shown w)) }
     ensures whole { (w : World) → IsLawful w → IsWhole (all_shown w) }
 {}
