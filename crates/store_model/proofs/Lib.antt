@@ -5,6 +5,7 @@ pub mod Committed
 pub mod Cuts
 pub mod Fields
 pub mod Flats
+pub mod FreshImages
 pub mod FromImages
 pub mod Grown
 pub mod Parts

@@ -83,6 +83,16 @@ places_nothing f images h =
     flat_nothing (λ (page : ℕ). of_slots (f page) (get_or images page [])) (length images) (λ page p.
     flat_nothing (λ (slot : ℕ). f page slot (slot_in images page slot)) (length (get_or images page [])) (λ slot s. h page slot p s))
 
+-- one place alone gives anything
+pub places_one : {A : Type 0} (f : ℕ → ℕ → SlotParts → List A) (images : List (List SlotParts)) (page slot : ℕ) → page < length images → slot < length (get_or images page [])
+    → ((p s : ℕ) → p < length images → s < length (get_or images p []) → (p ≡ page → s ≡ slot → ⊥) → f p s (slot_in images p s) ≡ []) → of_places f images ≡ f page slot (slot_in images page slot)
+places_one f images page slot page_within slot_within h =
+    flat_one (λ (p : ℕ). of_slots (f p) (get_or images p [])) (length images) page (λ p low off.
+    flat_nothing (λ (s : ℕ). f p s (slot_in images p s)) (length (get_or images p [])) (λ s lt. h p s low lt (λ e g. off e)))
+    (λ le. absurd (omega (arith, le, page_within)))
+    ∙ flat_one (λ (s : ℕ). f page s (slot_in images page s)) (length (get_or images page [])) slot (λ s lt off. h page s page_within lt (λ e g. off g))
+    (λ le. absurd (omega (arith, le, slot_within)))
+
 -- a place past the last gives nothing
 module _ {A : Type 0} (f : ℕ → ℕ → SlotParts → List A) (none : (page slot : ℕ) → f page slot no_slot ≡ []) (images : List (List SlotParts)) where
   pub past_slot : (page slot : ℕ) → length (get_or images page []) ≤ slot → f page slot (slot_in images page slot) ≡ []

@@ -96,13 +96,13 @@ shows_whole w lawful = λ name target reached refers_to.
 
 -- ---- each image
 
-slot_shown : (w : World) (page slot : ℕ) → page < w.pages → slot < slots_of w page → slot_in (all_shown w) page slot ≡ shown_slot (fields_of w page) w.graph w.freed page slot
+pub slot_shown : (w : World) (page slot : ℕ) → page < w.pages → slot < slots_of w page → slot_in (all_shown w) page slot ≡ shown_slot (fields_of w page) w.graph w.freed page slot
 unfolding shown_of
 slot_shown w page slot p s =
     ap (λ (image : List SlotParts). get_or image slot no_slot) (page_shown w page p)
     ∙ get-map_below (shown_slot (fields_of w page) w.graph w.freed page) (slots_of w page) slot no_slot s
 
-length_shown : (w : World) (page : ℕ) → length (shown w page) ≡ slots_of w page
+pub length_shown : (w : World) (page : ℕ) → length (shown w page) ≡ slots_of w page
 unfolding shown_of
 length_shown w page = length-map_below (shown_slot (fields_of w page) w.graph w.freed page) (slots_of w page)
 

@@ -5,7 +5,8 @@ ghost use Rattle.object_graph.specs.SlotParts.{SlotParts};
 ghost use Rattle.object_graph.specs.declared.names.Object.{Object};
 ghost use Rattle.object_graph.specs.Members.{In};
 ghost use Rattle.object_graph.specs.Graphs.{has_object, objects_at};
-ghost use Rattle.store_model.specs.Worlds.{World, fields_of, is_freed, new_object, unfreed};
+ghost use Rattle.store_model.specs.Worlds.{World, fields_of, fresh_world, is_freed, new_object, unfreed};
+ghost use Rattle.store_model.specs.Limits.{most_open};
 ghost use Rattle.store_model.specs.Images.{shown, all_shown, objects_in};
 ghost use Rattle.store_model.specs.Lawful.{IsLawful, HaveFields};
 ghost use Rattle.store_model.specs.FromImages.{world_of, slot_in, objects_in_use, is_name_in_use, was_given, AreImages, has_root, IsWhole};
@@ -34,6 +35,11 @@ pub fn opened_world_has_what_its_images_have()
 /// refers to what isn't in use.
 pub fn opened_world_is_lawful()
     ensures { (open_limit commits : ℕ) (images : List (List SlotParts)) → AreImages images → IsTrue (has_root images) → IsWhole images → IsLawful (world_of open_limit commits images) }
+{}
+
+/// The images of a fresh store open to the fresh world.
+pub fn a_fresh_store_opens_to_the_fresh_world()
+    ensures { (pages : ℕ) → 0 < pages → world_of most_open 0 (all_shown (fresh_world pages)) ≡ fresh_world pages }
 {}
 
 /// The objects in use are those that the slots name, each in its slot.
