@@ -11,7 +11,7 @@ use Rattle.object_graph.specs.Names.{root_name, name_eq}
 use Rattle.object_graph.specs.declared.names.Object.{Object}
 use Rattle.object_graph.specs.Graphs.{has_name, has_object, is_at, is_to, refers, objects_at, IsPath, IsReachedFrom}
 use Rattle.object_graph.proofs.Members.{In, any_in, in_any, each_in, each_from, in_append, append_left, append_right, in_map, map_in, in_filter, filter_in}
-use Rattle.object_graph.proofs.Paths.{name_of, has_name_in, in_has_name, has_object_in, in_has_object, is_to_same, reached_more}
+use Rattle.object_graph.proofs.Paths.{name_of, name_eq_same, has_name_in, in_has_name, has_object_in, in_has_object, is_to_same, reached_more}
 use Rattle.object_graph.specs.Slots.{below}
 use Rattle.store_model.specs.Worlds.{World, slots_of, fields_of, starts, unfreed, is_freed, is_unfreed, new_object, IsOutOfReach}
 use Rattle.store_model.specs.Images.{object_in, objects_in, shown, all_shown}
@@ -57,6 +57,13 @@ same_tests false false f g = refl
 
 pub used_are_named : (images : List (List SlotParts)) (name : NameParts) → has_object (objects_in_use images) name ≡ is_name_in_use images name
 used_are_named images name = same_tests (has_object (objects_in_use images) name) (is_name_in_use images name) (used_named images name) (named_used images name)
+
+-- a name is known by its place and its generation
+same_name : (a b : NameParts) → is_at b.page b.slot a ≡ true → a.generation ≡ b.generation → a ≡ b
+same_name a b at generation =
+    let p = and_parts (a.page == b.page) (a.slot == b.slot) at in
+    name_eq_same a b (and_from (a.page == b.page) ((a.slot == b.slot) && (a.generation == b.generation)) p.0
+    (and_from (a.slot == b.slot) (a.generation == b.generation) p.1 (eq-eqb a.generation b.generation generation)))
 
 -- ---- the graph of images
 
@@ -122,11 +129,7 @@ module _ (w : World) (images : List (List SlotParts)) (right : AreImagesOf (slot
       subst (λ (l : List ℕ). In name.generation l) (sym (all_generations w name.page name.slot s (slot_named w images right name.page name.slot)))
       (subst (λ (n : ℕ). In n (map suc (below s.generation))) g (map_in suc (below s.generation) k i)) in
       let b = in_map generation_of (all_objects_in w name.page name.slot s) name.generation m in
-      let at = and_parts (b.0.name.page == name.page) (b.0.name.slot == name.slot) (placed_at w name.page name.slot s b.0 b.1) in
-      let is : b.0.name ≡ name =
-      ap (λ (n : ℕ). name_of n b.0.name.slot b.0.name.generation) (eqb-true b.0.name.page name.page at.0)
-      ∙ ap (λ (n : ℕ). name_of name.page n b.0.name.generation) (eqb-true b.0.name.slot name.slot at.1)
-      ∙ ap (name_of name.page name.slot) (sym b.2) in
+      let is : b.0.name ≡ name = same_name b.0.name name (placed_at w name.page name.slot s b.0 b.1) (sym b.2) in
       subst (λ (n : NameParts). has_object graph n ≡ true) is (in_has_object graph b.0 (place_gives (all_objects_in w) (λ page slot. refl) images name.page name.slot b.0 b.1))
 
   there_given : (name : NameParts) → has_object graph name ≡ true → was_given images name ≡ true

@@ -9,4 +9,5 @@ pub mod FromImages
 pub mod Limits
 pub mod Texts
 pub mod Examples
+pub mod ImageExamples
 pub mod Lanes

@@ -9,6 +9,8 @@ ghost use Rattle.store_model.specs.Worlds.{World, fields_of, fresh_world, is_fre
 ghost use Rattle.store_model.specs.Limits.{most_open};
 ghost use Rattle.store_model.specs.Images.{shown, all_shown, objects_in};
 ghost use Rattle.store_model.specs.Lawful.{IsLawful, HaveFields};
+ghost use Rattle.store_model.specs.Histories.{IsLegal};
+ghost use Rattle.store_model.specs.ImageExamples as worked;
 ghost use Rattle.store_model.specs.FromImages.{world_of, slot_in, objects_in_use, is_name_in_use, was_given, AreImages, has_root, IsWhole};
 
 /// The world that images open to shows them.
@@ -55,4 +57,11 @@ pub fn lawful_worlds_show_images_of_a_store()
     ensures in_use { (w : World) (o : Object) → IsLawful w → In o (unfreed w) ↔ In o (objects_in_use (all_shown w)) }
     ensures root { (w : World) → IsLawful w → IsTrue (has_root (all_shown w)) }
     ensures whole { (w : World) → IsLawful w → IsWhole (all_shown w) }
+{}
+
+/// A small store with a freed and a lost object, the world that it opens to, and what happens there.
+pub fn a_small_store_opens()
+    ensures opens { world_of 64 3 worked.small_images ≡ worked.small_world }
+    ensures shows { all_shown worked.small_world ≡ worked.small_images }
+    ensures legal { IsLegal worked.small_world worked.from_there }
 {}

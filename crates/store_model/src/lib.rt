@@ -21,7 +21,7 @@ pub use examples::{
     what_is_born_in_a_cut_outlives_it,
 };
 pub use from_images::{
-    a_fresh_store_opens_to_the_fresh_world, lawful_worlds_show_images_of_a_store, objects_in_use_are_those_of_the_slots,
+    a_fresh_store_opens_to_the_fresh_world, a_small_store_opens, lawful_worlds_show_images_of_a_store, objects_in_use_are_those_of_the_slots,
     opened_world_has_what_its_images_have, opened_world_is_lawful, opened_world_shows_its_images,
 };
 pub use histories::{
