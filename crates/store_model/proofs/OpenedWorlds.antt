@@ -116,6 +116,11 @@ module _ (w : World) (images : List (List SlotParts)) (right : AreImagesOf (slot
         subst (λ (n : NameParts). has_name freed n ≡ false) a.2 (used_unfreed w images right p.page p.slot a.0 p.there),
       )
 
+  pub named_placed : (name : NameParts) → is_name_in_use images name ≡ true → IsPlaced (length images) (slots_of w) name
+  named_placed name h =
+      let a = has_object_in graph name (used_is_unfreed name (named_used images name h)).0 in
+      subst (IsPlaced (length images) (slots_of w)) a.2 (each_in (λ (o : Object). IsPlaced (length images) (slots_of w) o.name) graph a.0 names_placed a.1)
+
   given_there : (name : NameParts) → was_given images name ≡ true → has_object graph name ≡ true
   given_there name h =
       let s : SlotParts = slot_in images name.page name.slot in
@@ -244,6 +249,9 @@ module _ (w : World) (images : List (List SlotParts)) (right : AreImagesOf (slot
       ])
 
 -- ---- the world
+
+pub used_are_placed : (images : List (List SlotParts)) (name : NameParts) → AreImages images → is_name_in_use images name ≡ true → IsPlaced (length images) (slots_of (world_of 0 0 images)) name
+used_are_placed images name right h = named_placed (bare_world 0 0 (length images)) images right name h
 
 pub opened_has_fields : (open_limit commits : ℕ) (images : List (List SlotParts)) → AreImages images → HaveFields (fields_of (world_of open_limit commits images)) (world_of open_limit commits images).graph
 opened_has_fields open_limit commits images right = built_has_fields (bare_world open_limit commits (length images)) images right

@@ -5,10 +5,10 @@ ghost use Rattle.object_graph.specs.SlotParts.{SlotParts};
 ghost use Rattle.object_graph.specs.declared.names.Object.{Object};
 ghost use Rattle.object_graph.specs.Members.{In};
 ghost use Rattle.object_graph.specs.Graphs.{has_object, objects_at};
-ghost use Rattle.store_model.specs.Worlds.{World, fields_of, fresh_world, is_freed, new_object, unfreed};
+ghost use Rattle.store_model.specs.Worlds.{World, fields_of, slots_of, fresh_world, is_freed, new_object, unfreed};
 ghost use Rattle.store_model.specs.Limits.{most_open};
 ghost use Rattle.store_model.specs.Images.{shown, all_shown, objects_in};
-ghost use Rattle.store_model.specs.Lawful.{IsLawful, HaveFields};
+ghost use Rattle.store_model.specs.Lawful.{IsLawful, IsPlaced, HaveFields};
 ghost use Rattle.store_model.specs.Histories.{IsLegal};
 ghost use Rattle.store_model.specs.ImageExamples as worked;
 ghost use Rattle.store_model.specs.FromImages.{world_of, slot_in, objects_in_use, is_name_in_use, was_given, AreImages, has_root, IsWhole};
@@ -44,10 +44,13 @@ pub fn a_fresh_store_opens_to_the_fresh_world()
     ensures { (pages : ℕ) → 0 < pages → world_of most_open 0 (all_shown (fresh_world pages)) ≡ fresh_world pages }
 {}
 
-/// The objects in use are those that the slots name, each in its slot.
+/// The objects in use are those that the slots name, on pages and in slots of the store, one at most
+/// at each place.
 pub fn objects_in_use_are_those_of_the_slots()
     ensures named { (images : List (List SlotParts)) (name : NameParts) → has_object (objects_in_use images) name ≡ is_name_in_use images name }
-    ensures placed { (images : List (List SlotParts)) (page slot : ℕ) → objects_at (objects_in_use images) page slot ≡ objects_in page slot (slot_in images page slot) }
+    ensures placed { (images : List (List SlotParts)) (name : NameParts) → AreImages images → IsTrue (is_name_in_use images name)
+        → IsPlaced (length images) (slots_of (world_of 0 0 images)) name }
+    ensures one { (images : List (List SlotParts)) (page slot : ℕ) → objects_at (objects_in_use images) page slot ≡ objects_in page slot (slot_in images page slot) }
 {}
 
 /// A lawful world shows images that a store may have, in which its unfreed objects are in use, with
