@@ -50,7 +50,7 @@ named_used images name h =
     let m : In o (objects_in_use images) = place_gives objects_in (λ page slot. refl) images name.page name.slot o (objects_in_in name.page name.slot s a.0) in
     subst (λ (n : NameParts). has_object (objects_in_use images) n ≡ true) (ap (name_of name.page name.slot) (eqb-true s.generation name.generation a.1)) (in_has_object (objects_in_use images) o m)
 
-same_tests : (a b : Bool) → (a ≡ true → b ≡ true) → (b ≡ true → a ≡ true) → a ≡ b
+pub same_tests : (a b : Bool) → (a ≡ true → b ≡ true) → (b ≡ true → a ≡ true) → a ≡ b
 same_tests true b f g = sym (f refl)
 same_tests false true f g = g refl
 same_tests false false f g = refl
@@ -59,7 +59,7 @@ pub used_are_named : (images : List (List SlotParts)) (name : NameParts) → has
 used_are_named images name = same_tests (has_object (objects_in_use images) name) (is_name_in_use images name) (used_named images name) (named_used images name)
 
 -- a name is known by its place and its generation
-same_name : (a b : NameParts) → is_at b.page b.slot a ≡ true → a.generation ≡ b.generation → a ≡ b
+pub same_name : (a b : NameParts) → is_at b.page b.slot a ≡ true → a.generation ≡ b.generation → a ≡ b
 same_name a b at generation =
     let p = and_parts (a.page == b.page) (a.slot == b.slot) at in
     name_eq_same a b (and_from (a.page == b.page) ((a.slot == b.slot) && (a.generation == b.generation)) p.0

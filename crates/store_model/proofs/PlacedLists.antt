@@ -14,7 +14,7 @@ use Rattle.object_graph.proofs.Members.{In}
 use Rattle.store_model.specs.Images.{no_slot, of_slots}
 use Rattle.store_model.specs.FromImages.{slot_in, of_places}
 use Rattle.store_model.proofs.Cuts.{below_bound}
-use Rattle.store_model.proofs.Flats.{in_flat, flat_in}
+use Rattle.store_model.proofs.Flats.{in_flat, flat_in, length_below}
 use Rattle.store_model.proofs.Lists.{in_below}
 
 -- ---- tests over lists that are joined
@@ -112,6 +112,19 @@ module _ {A : Type 0} (f : ℕ → ℕ → SlotParts → List A) (none : (page s
           (flat_in (λ (slot : ℕ). f page slot (slot_in images page slot)) (below (length (get_or images page []))) slot y (in_below (length (get_or images page [])) slot s) m)
       by_page (inr p) s = absurd (subst (λ (l : List A). In y l) (past_page page slot p) m)
       by_page (inl p) (inr s) = absurd (subst (λ (l : List A). In y l) (past_slot page slot s) m)
+
+-- a slot in which anything ever was is inside
+pub inside : (images : List (List SlotParts)) (page slot : ℕ) → 0 < (slot_in images page slot).generation → (page < length images) × (slot < length (get_or images page []))
+inside images page slot some = (
+  elim (cases_lt page (length images)) [ inl lt ↦ lt | inr le ↦ absurd (nothing (past_page given (λ page slot. refl) images page slot le)) ],
+  elim (cases_lt slot (length (get_or images page []))) [ inl lt ↦ lt | inr le ↦ absurd (nothing (past_slot given (λ page slot. refl) images page slot le)) ],
+)
+  where
+    given : ℕ → ℕ → SlotParts → List ℕ
+    given page slot s = below s.generation
+
+    nothing : below (slot_in images page slot).generation ≡ [] → ⊥
+    nothing e = omega (arith, some, length_below (slot_in images page slot).generation, ap length e)
 
 -- ---- the objects of one place
 

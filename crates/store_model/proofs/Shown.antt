@@ -64,19 +64,21 @@ one_of (o ∷ os) a b h i j e = elim i [
 abbrev pub OneEach : List Object → List NameParts → Type 0
 OneEach graph freed = (page slot : ℕ) (a b : Object) → In a (unfreed_at graph freed page slot) → In b (unfreed_at graph freed page slot) → a ≡ b
 
+-- an unfreed object is the last of its place
+pub last_at : (graph : List Object) (freed : List NameParts) (page slot : ℕ) (o : Object) → OnlyLastUnfreed graph freed → In o (unfreed_at graph freed page slot)
+    → o.name.generation ≡ length (objects_at graph page slot)
+last_at graph freed page slot o last m =
+    let a = in_filter (is_unfreed freed) (objects_at graph page slot) o m in
+    let g = in_filter (λ (o : Object). is_at page slot o.name) graph o a.0 in
+    let at = and_parts (o.name.page == page) (o.name.slot == slot) g.1 in
+    let e = each_in (λ (o : Object). o.name.generation ≡ length (objects_at graph o.name.page o.name.slot)) (filter (is_unfreed freed) graph) o last (filter_in (is_unfreed freed) graph o g.0 a.1) in
+    e ∙ (ap (λ p. length (objects_at graph p o.name.slot)) (eqb-true o.name.page page at.0) ∙ ap (λ s. length (objects_at graph page s)) (eqb-true o.name.slot slot at.1))
+
 pub one_each : (graph : List Object) (freed : List NameParts) → CountsUp graph → OnlyLastUnfreed graph freed → OneEach graph freed
 one_each graph freed counts last = λ page slot a b i j.
-    let p = in_filter (is_unfreed freed) (objects_at graph page slot) a i in
-    let q = in_filter (is_unfreed freed) (objects_at graph page slot) b j in
-    one_of (objects_at graph page slot) a b (subst AreApart (sym (counts page slot)) (apart_below (length (objects_at graph page slot)))) p.0 q.0
-    (last_at page slot a p.0 p.1 ∙ sym (last_at page slot b q.0 q.1))
-  where
-    last_at : (page slot : ℕ) (o : Object) → In o (objects_at graph page slot) → is_unfreed freed o ≡ true → o.name.generation ≡ length (objects_at graph page slot)
-    last_at page slot o m u =
-        let g = in_filter (λ (o : Object). is_at page slot o.name) graph o m in
-        let at = and_parts (o.name.page == page) (o.name.slot == slot) g.1 in
-        let e = each_in (λ (o : Object). o.name.generation ≡ length (objects_at graph o.name.page o.name.slot)) (filter (is_unfreed freed) graph) o last (filter_in (is_unfreed freed) graph o g.0 u) in
-        e ∙ (ap (λ p. length (objects_at graph p o.name.slot)) (eqb-true o.name.page page at.0) ∙ ap (λ s. length (objects_at graph page s)) (eqb-true o.name.slot slot at.1))
+    one_of (objects_at graph page slot) a b (subst AreApart (sym (counts page slot)) (apart_below (length (objects_at graph page slot))))
+    (in_filter (is_unfreed freed) (objects_at graph page slot) a i).0 (in_filter (is_unfreed freed) (objects_at graph page slot) b j).0
+    (last_at graph freed page slot a last i ∙ sym (last_at graph freed page slot b last j))
 
 -- ---- what is shown
 

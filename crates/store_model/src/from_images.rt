@@ -53,11 +53,13 @@ pub fn objects_in_use_are_those_of_the_slots()
     ensures one { (images : List (List SlotParts)) (page slot : ℕ) → objects_at (objects_in_use images) page slot ≡ objects_in page slot (slot_in images page slot) }
 {}
 
-/// A lawful world shows images that a store may have, in which its unfreed objects are in use, with
-/// the root among them and nothing that is reached referring to what isn't in use.
+/// A lawful world shows images that a store may have. They tell its unfreed objects, its names and
+/// what is freed. The root is in use, and nothing that is reached refers to what isn't in use.
 pub fn lawful_worlds_show_images_of_a_store()
     ensures images { (w : World) → IsLawful w → HaveFields (fields_of w) w.graph → AreImages (all_shown w) }
     ensures in_use { (w : World) (o : Object) → IsLawful w → In o (unfreed w) ↔ In o (objects_in_use (all_shown w)) }
+    ensures names { (w : World) (name : NameParts) → IsLawful w → has_object w.graph name ≡ was_given (all_shown w) name }
+    ensures freed { (w : World) (name : NameParts) → IsLawful w → is_freed w name ≡ (was_given (all_shown w) name && not (is_name_in_use (all_shown w) name)) }
     ensures root { (w : World) → IsLawful w → IsTrue (has_root (all_shown w)) }
     ensures whole { (w : World) → IsLawful w → IsWhole (all_shown w) }
 {}
