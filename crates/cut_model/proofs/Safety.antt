@@ -1,7 +1,7 @@
 -- What the marks of a closed sound cut leave is garbage, and all that was lost is left.
-use Rattle.std.proofs.Common.{◌≡◌, ℕ, ◌<◌, true, false, not, ◌&&◌, List, [], ◌∷◌, length, get_or, Some, refl, sym, subst, ap, ◌∙◌, inl, inr, arith}
-use Rattle.std.specs.List.{list_any, filter, AllByRecursion}
-use Rattle.std.proofs.lemmas.Bool.{and_parts, cases_Bool, not-false}
+use Rattle.std.proofs.Common.{◌≡◌, ℕ, ◌<◌, true, false, not, ◌&&◌, List, [], ◌∷◌, length, get_or, Some, refl, sym, subst, ap, ◌∙◌, arith}
+use Rattle.std.specs.List.{list_any, filter}
+use Rattle.std.proofs.lemmas.Bool.{and_parts, not-false}
 use Rattle.object_graph.specs.NameParts.{NameParts}
 use Rattle.object_graph.specs.Names.{name_eq}
 use Rattle.object_graph.specs.SlotParts.{SlotParts}
@@ -9,11 +9,10 @@ use Rattle.object_graph.specs.Slots.{has_slot}
 use Rattle.object_graph.specs.declared.names.Object.{Object}
 use Rattle.object_graph.specs.Graphs.{has_name, has_object, is_to, IsPath}
 use Rattle.store_model.specs.Worlds.{World, Opening, starts, is_freed, IsReached}
-use Rattle.store_model.specs.Worlds.{IsOutOfReach}
 use Rattle.store_model.specs.Lawful.{IsPlaced}
 use Rattle.store_model.specs.Worlds.{slots_of, fields_of}
 use Rattle.object_graph.proofs.Members.{In, any_in, in_any, each_in, filter_in}
-use Rattle.object_graph.proofs.Paths.{name_eq_same, has_name_in, has_object_in, in_has_object, reached_more, path_first}
+use Rattle.object_graph.proofs.Paths.{name_eq_same, has_object_in, in_has_object, reached_more, path_first}
 use Rattle.store_model.proofs.OutOfReach.{unreached_is_out, reached_unfreed}
 use Rattle.store_model.specs.Lawful.{KeepsLost}
 use Rattle.store_model.specs.Worlds.{is_unfreed, is_old, IsLost}

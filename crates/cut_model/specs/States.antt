@@ -1,10 +1,10 @@
 -- What is committed, the name that each place has, and what a cut's opening keeps.
-use Rattle.std.specs.Prelude.{◌≡◌, ℕ, ◌+◌, List, [], ◌∷◌, length, filter}
+use Rattle.std.specs.Prelude.{◌≡◌, ℕ, ◌+◌, List, [], ◌∷◌, length}
 use Rattle.object_graph.specs.NameParts.{NameParts}
 use Rattle.object_graph.specs.SlotParts.{SlotParts}
 use Rattle.object_graph.specs.declared.names.Object.{Object}
 use Rattle.object_graph.specs.Graphs.{objects_at}
-use Rattle.store_model.specs.Worlds.{World, Transaction, Opening, slots_of, fields_of, is_unfreed, view}
+use Rattle.store_model.specs.Worlds.{World, Transaction, Opening, slots_of, fields_of, view}
 use Rattle.store_model.specs.Images.{unfreed_at, shown_of}
 use Rattle.store_model.specs.Lawful.{KeepsLost}
 

@@ -1,6 +1,6 @@
 -- Each object keeps as many references as an object of its page has.
-use Rattle.std.proofs.Common.{◌≡◌, ℕ, Bool, true, false, ◌==◌, cond, List, ◌++◌, [], ◌∷◌, map, length, Option, None, replicate, refl, sym, subst, ap, ◌∙◌, inl, inr}
-use Rattle.std.specs.List.{slice_set, AllByRecursion}
+use Rattle.std.proofs.Common.{◌≡◌, ℕ, Bool, true, false, ◌==◌, cond, List, ◌++◌, [], ◌∷◌, map, length, Option, None, refl, sym, subst, ap, ◌∙◌, inl, inr}
+use Rattle.std.specs.List.{slice_set}
 use Rattle.std.proofs.lemmas.List.{length-replicate, length-set}
 use Rattle.object_graph.specs.NameParts.{NameParts}
 use Rattle.object_graph.specs.Names.{name_eq}
@@ -9,7 +9,7 @@ use Rattle.object_graph.specs.declared.calls.Call.{Call}
 use Rattle.object_graph.specs.declared.calls.Call.TheVariants.{New, Commit, Reopen}
 use Rattle.object_graph.specs.declared.calls.Reply.{Reply}
 use Rattle.object_graph.specs.declared.calls.Reply.TheVariants.{Refused}
-use Rattle.object_graph.proofs.Members.{In, in_append, in_map, each_in, each_from}
+use Rattle.object_graph.proofs.Members.{in_append, in_map, each_in, each_from}
 use Rattle.store_model.specs.Worlds.{World, Transaction, Write, link, assign, Note, Event, Doubt, commit_in_doubt, view, transaction, with_writes, written_by, new_object, fields_of, fresh_world}
 use Rattle.store_model.specs.Causes.{new_name}
 use Rattle.store_model.specs.Steps.{graph_in_doubt, commits_found, after_answer, after_reply, next}

@@ -1,5 +1,5 @@
 -- The images of a fresh store open to the fresh world.
-use Rattle.std.proofs.Common.{◌≡◌, ℕ, ◌<◌, ◌==◌, Bool, true, false, cond, List, [], ◌∷◌, length, get_or, None, refl, sym, ◌∙◌, ap, subst, arith, inl, inr}
+use Rattle.std.proofs.Common.{◌≡◌, ℕ, ◌<◌, ◌==◌, Bool, true, false, cond, List, [], length, get_or, None, sym, ◌∙◌, ap, subst, arith, inl, inr}
 use Rattle.std.specs.List.{filter}
 use Rattle.std.proofs.lemmas.Bool.{cases_Bool, and_parts, eqb-true}
 use Rattle.object_graph.specs.NameParts.{NameParts}
@@ -8,11 +8,11 @@ use Rattle.object_graph.specs.Names.{root_name}
 use Rattle.object_graph.specs.declared.names.Object.{Object}
 use Rattle.object_graph.specs.Graphs.{is_at, fresh_graph}
 use Rattle.store_model.specs.Limits.{most_open}
-use Rattle.store_model.specs.Worlds.{World, no_doubt, slots_of, fields_of, is_unfreed, fresh_world}
-use Rattle.store_model.specs.Images.{slot_with, shown_slot, shown, all_shown}
+use Rattle.store_model.specs.Worlds.{World, no_doubt, fields_of, is_unfreed, fresh_world}
+use Rattle.store_model.specs.Images.{slot_with, shown, all_shown}
 use Rattle.store_model.specs.FromImages.{slot_in, of_places, freed_in, all_objects_in, bare_world, world_of}
 use Rattle.store_model.proofs.Flats.{length-map_below}
-use Rattle.store_model.proofs.PlacedLists.{places_nothing, places_one}
+use Rattle.store_model.proofs.PlacedLists.{places_one}
 use Rattle.store_model.proofs.ShownWorlds.{page_shown, slot_shown, length_shown}
 
 -- the root's place has the root, and no other place has anything

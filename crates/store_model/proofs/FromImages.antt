@@ -1,5 +1,5 @@
 -- The world that images open to shows them.
-use Rattle.std.proofs.Common.{◌≡◌, ℕ, zero, suc, ◌-◌, ◌<◌, ◌≤◌, ◌==◌, Bool, true, false, not, cond, List, [], ◌∷◌, ◌++◌, map, length, get_or, replicate, Option, None, refl, sym, ◌∙◌, ap, subst, arith, ◌⊎◌, inl, inr, append-nil, length-append}
+use Rattle.std.proofs.Common.{◌≡◌, ℕ, zero, suc, ◌-◌, ◌<◌, ◌≤◌, ◌==◌, Bool, true, false, not, cond, List, [], ◌∷◌, ◌++◌, map, length, get_or, replicate, Option, None, refl, sym, ◌∙◌, ap, subst, arith, ◌⊎◌, inl, inr, append-nil}
 use Rattle.std.specs.List.{filter, flat_map}
 use Rattle.std.proofs.lemmas.Bool.{cases_Bool, cases_lt, and_from, eq-eqb}
 use Rattle.std.proofs.lemmas.List.{get_or_past, length-map, map-append, ext_get_or}
@@ -9,7 +9,7 @@ use Rattle.object_graph.specs.SlotParts.{SlotParts}
 use Rattle.object_graph.specs.declared.names.Object.{Object}
 use Rattle.object_graph.specs.Graphs.{has_name, is_at, objects_at}
 use Rattle.object_graph.specs.Slots.{below}
-use Rattle.object_graph.proofs.Members.{In, in_append, append_left, append_right, in_map, map_in}
+use Rattle.object_graph.proofs.Members.{In, in_append, in_map}
 use Rattle.object_graph.proofs.Paths.{has_name_in, in_has_name}
 use Rattle.store_model.specs.Worlds.{World, is_unfreed, new_object, slots_of, fields_of}
 use Rattle.store_model.specs.Images.{no_slot, object_in, objects_in, slot_with, shown_slot, shown_of}
@@ -18,7 +18,7 @@ use Rattle.store_model.specs.FromImages.{slot_in, of_places, objects_in_use, fre
 use Rattle.store_model.proofs.Cuts.{below_bound}
 use Rattle.store_model.proofs.Flats.{in_objects_in, length_below, length-map_below, get-map_below}
 use Rattle.store_model.proofs.Places.{map_of_map, generation_of}
-use Rattle.store_model.proofs.PlacedLists.{filter_flat, flat_same, filter_all, filter_nothing, IsOfPlace, in_places, place_gives, past_slot, past_page, objects_of_place}
+use Rattle.store_model.proofs.PlacedLists.{filter_flat, flat_same, filter_all, filter_nothing, in_places, place_gives, objects_of_place}
 
 -- ---- one place
 

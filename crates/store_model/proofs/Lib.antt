@@ -7,6 +7,7 @@ pub mod Fields
 pub mod Flats
 pub mod FreshImages
 pub mod FromImages
+pub mod Given
 pub mod Grown
 pub mod Parts
 pub mod Images

@@ -1,9 +1,8 @@
 -- The world that images open to is lawful, and the objects in use are those that the slots name.
-use Rattle.std.proofs.Common.{◌≡◌, ℕ, suc, ◌-◌, ◌<◌, Bool, true, false, ◌&&◌, ◌==◌, not, List, [], ◌∷◌, map, length, get_or, Option, Some, None, refl, sym, ◌∙◌, ap, subst, arith, inl, inr}
+use Rattle.std.proofs.Common.{◌≡◌, ℕ, ◌<◌, Bool, true, false, ◌&&◌, ◌==◌, not, List, [], ◌∷◌, map, length, get_or, Option, Some, None, refl, sym, ◌∙◌, ap, subst, arith, inl, inr}
 use Rattle.std.specs.Bool.{IsTrue}
-use Rattle.std.proofs.Math.Dec.{leb, ltb}
 use Rattle.std.specs.List.{list_any, filter, AllByRecursion}
-use Rattle.std.proofs.lemmas.Bool.{cases_Bool, and_parts, and_from, eq-eqb, eqb-true, not-true, ltb-true, lt-ltb, leb-true, le-leb}
+use Rattle.std.proofs.lemmas.Bool.{and_parts, and_from, eqb-true}
 use Rattle.std.proofs.lemmas.List.{length-replicate}
 use Rattle.object_graph.specs.NameParts.{NameParts}
 use Rattle.object_graph.specs.SlotParts.{SlotParts}
@@ -11,59 +10,18 @@ use Rattle.object_graph.specs.Names.{root_name, name_eq}
 use Rattle.object_graph.specs.declared.names.Object.{Object}
 use Rattle.object_graph.specs.Graphs.{has_name, has_object, is_at, is_to, refers, objects_at, IsPath, IsReachedFrom}
 use Rattle.object_graph.proofs.Members.{In, any_in, in_any, each_in, each_from, in_append, append_left, append_right, in_map, map_in, in_filter, filter_in}
-use Rattle.object_graph.proofs.Paths.{name_of, name_eq_same, has_name_in, in_has_name, has_object_in, in_has_object, is_to_same, reached_more}
-use Rattle.object_graph.specs.Slots.{below}
-use Rattle.store_model.specs.Worlds.{World, slots_of, fields_of, starts, unfreed, is_freed, is_unfreed, new_object, IsOutOfReach}
-use Rattle.store_model.specs.Images.{object_in, objects_in, shown, all_shown}
+use Rattle.object_graph.proofs.Paths.{has_name_in, in_has_name, has_object_in, in_has_object, is_to_same, reached_more}
+use Rattle.store_model.specs.Worlds.{World, slots_of, fields_of, unfreed, is_freed, is_unfreed, new_object, IsOutOfReach}
+use Rattle.store_model.specs.Images.{objects_in, shown, all_shown}
 use Rattle.store_model.specs.Lawful.{IsPlaced, HaveFields, RefersWithin, OnlyLastUnfreed, IsLastOfPlace, IsOrderly, IsLawful}
 use Rattle.store_model.specs.FromImages.{slot_in, of_places, objects_in_use, is_name_in_use, was_given, freed_in, all_objects_in, bare_world, world_of, AreImagesOf, AreImages, has_root, IsWhole}
 use Rattle.store_model.proofs.Committed.{path_last}
-use Rattle.store_model.proofs.Cuts.{below_bound}
 use Rattle.store_model.proofs.Fields.{HasFields}
-use Rattle.store_model.proofs.Flats.{in_objects_in, objects_in_in}
-use Rattle.store_model.proofs.Lists.{in_below}
-use Rattle.store_model.proofs.Places.{generation_of}
-use Rattle.store_model.proofs.PlacedLists.{in_places, place_gives, objects_of_place}
-use Rattle.store_model.proofs.FromImages.{at_place, object_at, placed_at, names_built, counts_built, used_unfreed, slot_named, all_generations, unfreed_built, unfreed_are_used, freed_as_made, page_built, images_built}
+use Rattle.store_model.proofs.Flats.{in_objects_in}
+use Rattle.store_model.proofs.PlacedLists.{in_places, place_gives}
+use Rattle.store_model.proofs.Given.{named_used, names_given, freed_given}
+use Rattle.store_model.proofs.FromImages.{at_place, placed_at, names_built, counts_built, used_unfreed, unfreed_built, unfreed_are_used, freed_as_made, page_built, images_built}
 use Rattle.store_model.proofs.Reach.{none_only}
-
--- ---- the objects in use
-
-pub objects_used_at : (images : List (List SlotParts)) (page slot : ℕ) → objects_at (objects_in_use images) page slot ≡ objects_in page slot (slot_in images page slot)
-objects_used_at images page slot = objects_of_place objects_in (λ page slot. refl) object_at images page slot
-
-pub used_named : (images : List (List SlotParts)) (name : NameParts) → has_object (objects_in_use images) name ≡ true → is_name_in_use images name ≡ true
-used_named images name h =
-    let a = has_object_in (objects_in_use images) name h in
-    let p = in_places objects_in images a.0 a.1 in
-    let b = in_objects_in p.page p.slot (slot_in images p.page p.slot) a.0 p.there in
-    let named : name ≡ name_of p.page p.slot (slot_in images p.page p.slot).generation = sym a.2 ∙ ap (λ (o : Object). o.name) b.1 in
-    subst (λ (n : NameParts). is_name_in_use images n ≡ true) (sym named)
-    (and_from (slot_in images p.page p.slot).in_use ((slot_in images p.page p.slot).generation == (slot_in images p.page p.slot).generation) b.0
-    (eq-eqb (slot_in images p.page p.slot).generation (slot_in images p.page p.slot).generation refl))
-
-pub named_used : (images : List (List SlotParts)) (name : NameParts) → is_name_in_use images name ≡ true → has_object (objects_in_use images) name ≡ true
-named_used images name h =
-    let s : SlotParts = slot_in images name.page name.slot in
-    let a = and_parts s.in_use (s.generation == name.generation) h in
-    let o : Object = object_in name.page name.slot s in
-    let m : In o (objects_in_use images) = place_gives objects_in (λ page slot. refl) images name.page name.slot o (objects_in_in name.page name.slot s a.0) in
-    subst (λ (n : NameParts). has_object (objects_in_use images) n ≡ true) (ap (name_of name.page name.slot) (eqb-true s.generation name.generation a.1)) (in_has_object (objects_in_use images) o m)
-
-pub same_tests : (a b : Bool) → (a ≡ true → b ≡ true) → (b ≡ true → a ≡ true) → a ≡ b
-same_tests true b f g = sym (f refl)
-same_tests false true f g = g refl
-same_tests false false f g = refl
-
-pub used_are_named : (images : List (List SlotParts)) (name : NameParts) → has_object (objects_in_use images) name ≡ is_name_in_use images name
-used_are_named images name = same_tests (has_object (objects_in_use images) name) (is_name_in_use images name) (used_named images name) (named_used images name)
-
--- a name is known by its place and its generation
-pub same_name : (a b : NameParts) → is_at b.page b.slot a ≡ true → a.generation ≡ b.generation → a ≡ b
-same_name a b at generation =
-    let p = and_parts (a.page == b.page) (a.slot == b.slot) at in
-    name_eq_same a b (and_from (a.page == b.page) ((a.slot == b.slot) && (a.generation == b.generation)) p.0
-    (and_from (a.slot == b.slot) (a.generation == b.generation) p.1 (eq-eqb a.generation b.generation generation)))
 
 -- ---- the graph of images
 
@@ -121,70 +79,15 @@ module _ (w : World) (images : List (List SlotParts)) (right : AreImagesOf (slot
       let a = has_object_in graph name (used_is_unfreed name (named_used images name h)).0 in
       subst (IsPlaced (length images) (slots_of w)) a.2 (each_in (λ (o : Object). IsPlaced (length images) (slots_of w) o.name) graph a.0 names_placed a.1)
 
-  given_there : (name : NameParts) → was_given images name ≡ true → has_object graph name ≡ true
-  given_there name h =
-      let s : SlotParts = slot_in images name.page name.slot in
-      let a = and_parts (ltb 0 name.generation) (leb name.generation s.generation) h in
-      let some = ltb-true 0 name.generation a.0 in
-      let low = leb-true name.generation s.generation a.1 in
-      let k : ℕ = name.generation - 1 in
-      let g : suc k ≡ name.generation = omega (arith, some) in
-      let i : In k (below s.generation) = in_below s.generation k (omega (arith, g, low)) in
-      let m : In name.generation (map generation_of (all_objects_in w name.page name.slot s)) =
-      subst (λ (l : List ℕ). In name.generation l) (sym (all_generations w name.page name.slot s (slot_named w images right name.page name.slot)))
-      (subst (λ (n : ℕ). In n (map suc (below s.generation))) g (map_in suc (below s.generation) k i)) in
-      let b = in_map generation_of (all_objects_in w name.page name.slot s) name.generation m in
-      let is : b.0.name ≡ name = same_name b.0.name name (placed_at w name.page name.slot s b.0 b.1) (sym b.2) in
-      subst (λ (n : NameParts). has_object graph n ≡ true) is (in_has_object graph b.0 (place_gives (all_objects_in w) (λ page slot. refl) images name.page name.slot b.0 b.1))
-
-  there_given : (name : NameParts) → has_object graph name ≡ true → was_given images name ≡ true
-  there_given name h =
-      let a = has_object_in graph name h in
-      let p = in_places (all_objects_in w) images a.0 a.1 in
-      let s : SlotParts = slot_in images p.page p.slot in
-      let at = and_parts (a.0.name.page == p.page) (a.0.name.slot == p.slot) (placed_at w p.page p.slot s a.0 p.there) in
-      let page : p.page ≡ name.page = sym (eqb-true a.0.name.page p.page at.0) ∙ ap (λ (n : NameParts). n.page) a.2 in
-      let slot : p.slot ≡ name.slot = sym (eqb-true a.0.name.slot p.slot at.1) ∙ ap (λ (n : NameParts). n.slot) a.2 in
-      let same : s.generation ≡ (slot_in images name.page name.slot).generation =
-      ap (λ (n : ℕ). (slot_in images n p.slot).generation) page ∙ ap (λ (n : ℕ). (slot_in images name.page n).generation) slot in
-      let m : In a.0.name.generation (map suc (below s.generation)) =
-      subst (λ (l : List ℕ). In a.0.name.generation l) (all_generations w p.page p.slot s (slot_named w images right p.page p.slot))
-      (map_in generation_of (all_objects_in w p.page p.slot s) a.0 p.there) in
-      let b = in_map suc (below s.generation) a.0.name.generation m in
-      let low = below_bound s.generation b.0 b.1 in
-      let g : a.0.name.generation ≡ suc b.0 = b.2 in
-      let n : a.0.name.generation ≡ name.generation = ap (λ (n : NameParts). n.generation) a.2 in
-      and_from (ltb 0 name.generation) (leb name.generation (slot_in images name.page name.slot).generation)
-      (lt-ltb 0 name.generation (omega (arith, g, n))) (le-leb name.generation (slot_in images name.page name.slot).generation (omega (arith, g, n, low, same)))
-
-  -- the names of the graph are those that were given
+  -- the names of the graph are those that were given, and the freed ones those that no object in use has
   pub there_are_given : (name : NameParts) → has_object graph name ≡ was_given images name
-  there_are_given name = same_tests (has_object graph name) (was_given images name) (there_given name) (given_there name)
+  there_are_given = names_given graph images (counts_built w images right) (λ page slot. sym (names_built w images right page slot))
 
-  freed_unused : (name : NameParts) → has_name freed name ≡ true → (was_given images name && not (is_name_in_use images name)) ≡ true
-  freed_unused name h =
-      let there = each_in (λ (n : NameParts). IsTrue (has_object graph n)) freed name freed_are_there (has_name_in freed name h) in
-      and_from (was_given images name) (not (is_name_in_use images name)) (there_given name there) (elim (cases_Bool (is_name_in_use images name)) [
-        | inr e ↦ ap not e
-        | inl e ↦ let z = (used_is_unfreed name (named_used images name e)).1 in absurd cc
-      ])
-
-  unused_freed : (name : NameParts) → (was_given images name && not (is_name_in_use images name)) ≡ true → has_name freed name ≡ true
-  unused_freed name h = elim (cases_Bool (has_name freed name)) [
-    | inl e ↦ e
-    | inr e ↦
-        let a = and_parts (was_given images name) (not (is_name_in_use images name)) h in
-        let o = has_object_in graph name (given_there name a.0) in
-        let u : is_unfreed freed o.0 ≡ true = ap (λ (n : NameParts). not (has_name freed n)) o.2 ∙ ap not e in
-        let m : In o.0 used = subst (λ (l : List Object). In o.0 l) (unfreed_are_used w images right) (filter_in (is_unfreed freed) graph o.0 o.1 u) in
-        let named : is_name_in_use images name ≡ true = used_named images name (subst (λ (n : NameParts). has_object used n ≡ true) o.2 (in_has_object used o.0 m)) in
-        let no = not-true (is_name_in_use images name) a.1 in
-        absurd cc
-  ]
-
-  -- the freed names are those given that no object in use has
   pub freed_are_unused : (name : NameParts) → has_name freed name ≡ (was_given images name && not (is_name_in_use images name))
-  freed_are_unused name = same_tests (has_name freed name) (was_given images name && not (is_name_in_use images name)) (freed_unused name) (unused_freed name)
+  freed_are_unused = freed_given graph freed images (λ name. there_are_given name) freed_are_there (λ o. (
+    λ m. subst (λ (l : List Object). In o l) (unfreed_are_used w images right) m,
+    λ m. subst (λ (l : List Object). In o l) (sym (unfreed_are_used w images right)) m,
+  ))
 
   -- a freed object refers to nothing
   pub refers_used : (from to : NameParts) → refers graph from to ≡ true → refers used from to ≡ true

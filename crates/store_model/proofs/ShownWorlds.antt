@@ -1,9 +1,7 @@
 -- A lawful world shows images that a store may have.
-use Rattle.std.proofs.Common.{◌≡◌, ◌↔◌, ℕ, suc, ◌-◌, ◌<◌, ◌==◌, ◌&&◌, Bool, true, false, not, List, [], ◌∷◌, map, length, get_or, Option, None, replicate, refl, sym, ◌∙◌, ap, subst, arith, inl, inr}
-use Rattle.std.specs.Bool.{IsTrue}
-use Rattle.std.proofs.Math.Dec.{leb, ltb}
-use Rattle.std.specs.List.{list_any, filter}
-use Rattle.std.proofs.lemmas.Bool.{cases_Bool, and_parts, and_from, eqb-true, not-true, ltb-true, lt-ltb, leb-true, le-leb}
+use Rattle.std.proofs.Common.{◌≡◌, ◌↔◌, ℕ, zero, suc, ◌<◌, ◌≤◌, ◌⊎◌, ◌==◌, ◌&&◌, Bool, true, not, List, [], ◌∷◌, map, length, get_or, None, refl, sym, ◌∙◌, ap, subst, arith, inl, inr}
+use Rattle.std.specs.List.{list_any}
+use Rattle.std.proofs.lemmas.Bool.{cases_Bool, cases_lt, and_parts, eqb-true}
 use Rattle.std.proofs.lemmas.List.{length-replicate}
 use Rattle.object_graph.specs.NameParts.{NameParts}
 use Rattle.object_graph.specs.SlotParts.{SlotParts}
@@ -12,7 +10,7 @@ use Rattle.object_graph.specs.declared.names.Object.{Object}
 use Rattle.object_graph.specs.Graphs.{has_name, has_object, is_at, is_to, refers, objects_at, IsPath, IsReachedFrom}
 use Rattle.object_graph.specs.Slots.{below}
 use Rattle.object_graph.proofs.Members.{In, any_in, in_any, in_filter, filter_in, in_map, map_in, each_in}
-use Rattle.object_graph.proofs.Paths.{has_name_in, has_object_in, in_has_object, reached_more}
+use Rattle.object_graph.proofs.Paths.{has_object_in, in_has_object, reached_more}
 use Rattle.store_model.specs.Worlds.{World, slots_of, fields_of, starts, unfreed, is_freed, is_unfreed}
 use Rattle.store_model.specs.Images.{no_slot, unfreed_at, slot_with, shown_slot, shown_of, shown, all_shown, objects_of}
 use Rattle.store_model.specs.Lawful.{IsPlaced, HaveFields, CountsUp, IsOrderly, IsLawful}
@@ -20,13 +18,12 @@ use Rattle.store_model.specs.FromImages.{slot_in, objects_in_use, is_name_in_use
 use Rattle.store_model.proofs.Cuts.{below_bound}
 use Rattle.store_model.proofs.Fields.{HasFields}
 use Rattle.store_model.proofs.Flats.{in_flat, flat_in, length-map_below, get-map_below}
-use Rattle.store_model.proofs.FromImages.{at_place}
 use Rattle.store_model.proofs.Lists.{in_below}
 use Rattle.store_model.proofs.OutOfReach.{reached_unfreed}
 use Rattle.store_model.proofs.Places.{generation_of}
-use Rattle.store_model.proofs.PlacedLists.{inside}
+use Rattle.store_model.proofs.PlacedLists.{filter_nothing, inside}
 use Rattle.store_model.proofs.Shown.{IsShown, one_each, last_at, in_shown, shows_object}
-use Rattle.store_model.proofs.OpenedWorlds.{same_tests, same_name, used_named, named_used}
+use Rattle.store_model.proofs.Given.{used_named, names_given, freed_given}
 
 -- ---- paths in a part of a graph
 
@@ -151,72 +148,42 @@ slot_generation : (fields names : ℕ) (os : List Object) → ((o : Object) → 
 slot_generation fields names [] h = refl
 slot_generation fields names (o ∷ os) h = h o (inl refl)
 
--- the stored generation of a place is the number of its names
-pub stored_is : (w : World) (page slot : ℕ) → IsOrderly w → page < w.pages → slot < slots_of w page → (slot_in (all_shown w) page slot).generation ≡ length (objects_at w.graph page slot)
-stored_is w page slot lawful p s =
-    ap (λ (s : SlotParts). s.generation) (slot_shown w page slot p s)
-    ∙ slot_generation (fields_of w page) (length (objects_at w.graph page slot)) (unfreed_at w.graph w.freed page slot) (λ o m. last_at w.graph w.freed page slot o lawful.last m)
-
-shown_given : (w : World) (name : NameParts) → IsOrderly w → has_object w.graph name ≡ true → was_given (all_shown w) name ≡ true
-shown_given w name lawful h =
-    let a = has_object_in w.graph name h in
-    let placed = subst (IsPlaced w.pages (slots_of w)) a.2 (each_in (λ (o : Object). IsPlaced w.pages (slots_of w) o.name) w.graph a.0 lawful.placed a.1) in
-    let names : List Object = objects_at w.graph name.page name.slot in
-    let there : In a.0 names = filter_in (λ (o : Object). is_at name.page name.slot o.name) w.graph a.0 a.1
-    (subst (λ (n : NameParts). is_at name.page name.slot n ≡ true) (sym a.2) (at_place name.page name.slot name refl refl)) in
-    let m : In a.0.name.generation (map suc (below (length names))) =
-    subst (λ (l : List ℕ). In a.0.name.generation l) (lawful.counted name.page name.slot) (map_in generation_of names a.0 there) in
-    let b = in_map suc (below (length names)) a.0.name.generation m in
-    let low = below_bound (length names) b.0 b.1 in
-    let g : a.0.name.generation ≡ suc b.0 = b.2 in
-    let n : a.0.name.generation ≡ name.generation = ap (λ (n : NameParts). n.generation) a.2 in
-    let stored = stored_is w name.page name.slot lawful placed.0 placed.1 in
-    and_from (ltb 0 name.generation) (leb name.generation (slot_in (all_shown w) name.page name.slot).generation)
-    (lt-ltb 0 name.generation (omega (arith, g, n))) (le-leb name.generation (slot_in (all_shown w) name.page name.slot).generation (omega (arith, g, n, low, stored)))
-
-given_shown : (w : World) (name : NameParts) → IsOrderly w → was_given (all_shown w) name ≡ true → has_object w.graph name ≡ true
-given_shown w name lawful h =
-    let images : List (List SlotParts) = all_shown w in
-    let s : SlotParts = slot_in images name.page name.slot in
-    let a = and_parts (ltb 0 name.generation) (leb name.generation s.generation) h in
-    let some = ltb-true 0 name.generation a.0 in
-    let low = leb-true name.generation s.generation a.1 in
-    let in_bounds = inside images name.page name.slot (omega (arith, some, low)) in
-    let p : name.page < w.pages = subst (λ (n : ℕ). name.page < n) (length-map_below (shown w) w.pages) in_bounds.0 in
-    let q : name.slot < slots_of w name.page = subst (λ (n : ℕ). name.slot < n) (ap length (page_shown w name.page p) ∙ length_shown w name.page) in_bounds.1 in
-    let stored = stored_is w name.page name.slot lawful p q in
-    let names : List Object = objects_at w.graph name.page name.slot in
-    let k : ℕ = name.generation - 1 in
-    let g : suc k ≡ name.generation = omega (arith, some) in
-    let m : In name.generation (map suc (below (length names))) =
-    subst (λ (n : ℕ). In n (map suc (below (length names)))) g (map_in suc (below (length names)) k (in_below (length names) k (omega (arith, g, low, stored)))) in
-    let b = in_map generation_of names name.generation (subst (λ (l : List ℕ). In name.generation l) (sym (lawful.counted name.page name.slot)) m) in
-    let there = in_filter (λ (o : Object). is_at name.page name.slot o.name) w.graph b.0 b.1 in
-    subst (λ (n : NameParts). has_object w.graph n ≡ true) (same_name b.0.name name there.1 (sym b.2)) (in_has_object w.graph b.0 there.0)
-
-pub names_are_given : (w : World) (name : NameParts) → IsOrderly w → has_object w.graph name ≡ was_given (all_shown w) name
-names_are_given w name lawful = same_tests (has_object w.graph name) (was_given (all_shown w) name) (shown_given w name lawful) (given_shown w name lawful)
-
-unused : (w : World) (name : NameParts) → IsOrderly w → is_freed w name ≡ true → is_name_in_use (all_shown w) name ≡ false
-unused w name lawful h = elim (cases_Bool (is_name_in_use (all_shown w) name)) [
+-- a place that isn't of the store has no names
+none_past : (w : World) (page slot : ℕ) → IsOrderly w → ¬ ((page < w.pages) × (slot < slots_of w page)) → objects_at w.graph page slot ≡ []
+none_past w page slot lawful past = filter_nothing (λ (o : Object). is_at page slot o.name) w.graph (λ o m. elim (cases_Bool (is_at page slot o.name)) [
   | inr e ↦ e
   | inl e ↦
-      let a = has_object_in (objects_in_use (all_shown w)) name (named_used (all_shown w) name e) in
-      let u : not (is_freed w name) ≡ true = subst (λ (n : NameParts). not (has_name w.freed n) ≡ true) a.2 (used_shown w a.0 a.1).unfreed in
-      let f = not-true (is_freed w name) u in
-      absurd cc
-]
+      let placed = each_in (λ (o : Object). IsPlaced w.pages (slots_of w) o.name) w.graph o lawful.placed m in
+      let at = and_parts (o.name.page == page) (o.name.slot == slot) e in
+      let p = eqb-true o.name.page page at.0 in
+      let s = eqb-true o.name.slot slot at.1 in
+      absurd (past (subst (λ (n : ℕ). n < w.pages) p placed.0, subst (λ (n : ℕ). n < slots_of w page) s (subst (λ (n : ℕ). o.name.slot < slots_of w n) p placed.1)))
+])
+
+stored_past : (w : World) (page slot : ℕ) → IsOrderly w → ¬ ((page < w.pages) × (slot < slots_of w page)) → (slot_in (all_shown w) page slot).generation ≡ length (objects_at w.graph page slot)
+stored_past w page slot lawful past = zero_generation (slot_in (all_shown w) page slot).generation refl ∙ sym (ap length (none_past w page slot lawful past))
+  where
+    zero_generation : (n : ℕ) → (slot_in (all_shown w) page slot).generation ≡ n → n ≡ 0
+    zero_generation zero e = refl
+    zero_generation (suc n) e =
+        let in_bounds = inside (all_shown w) page slot (omega (arith, e)) in
+        let p : page < w.pages = subst (λ (n : ℕ). page < n) (length-map_below (shown w) w.pages) in_bounds.0 in
+        absurd (past (p, subst (λ (n : ℕ). slot < n) (ap length (page_shown w page p) ∙ length_shown w page) in_bounds.1))
+
+-- the stored generation of a place is the number of its names
+pub stored_is : (w : World) (page slot : ℕ) → IsOrderly w → (slot_in (all_shown w) page slot).generation ≡ length (objects_at w.graph page slot)
+stored_is w page slot lawful = by_bounds (cases_lt page w.pages) (cases_lt slot (slots_of w page))
+  where
+    by_bounds : (page < w.pages) ⊎ (w.pages ≤ page) → (slot < slots_of w page) ⊎ (slots_of w page ≤ slot) → (slot_in (all_shown w) page slot).generation ≡ length (objects_at w.graph page slot)
+    by_bounds (inl p) (inl s) =
+        ap (λ (s : SlotParts). s.generation) (slot_shown w page slot p s)
+        ∙ slot_generation (fields_of w page) (length (objects_at w.graph page slot)) (unfreed_at w.graph w.freed page slot) (λ o m. last_at w.graph w.freed page slot o lawful.last m)
+    by_bounds (inl p) (inr s) = stored_past w page slot lawful (λ h. omega (arith, h.1, s))
+    by_bounds (inr p) s = stored_past w page slot lawful (λ h. omega (arith, h.0, p))
+
+pub names_are_given : (w : World) (name : NameParts) → IsOrderly w → has_object w.graph name ≡ was_given (all_shown w) name
+names_are_given w name lawful = names_given w.graph (all_shown w) lawful.counted (λ page slot. stored_is w page slot lawful) name
 
 pub freed_are_shown_unused : (w : World) (name : NameParts) → IsOrderly w → is_freed w name ≡ (was_given (all_shown w) name && not (is_name_in_use (all_shown w) name))
-freed_are_shown_unused w name lawful = same_tests (is_freed w name) (was_given (all_shown w) name && not (is_name_in_use (all_shown w) name))
-    (λ h. and_from (was_given (all_shown w) name) (not (is_name_in_use (all_shown w) name))
-    (shown_given w name lawful (each_in (λ (n : NameParts). IsTrue (has_object w.graph n)) w.freed name lawful.freed_there (has_name_in w.freed name h)))
-    (ap not (unused w name lawful h)))
-    (λ h. elim (cases_Bool (is_freed w name)) [
-      | inl e ↦ e
-      | inr e ↦
-          let a = and_parts (was_given (all_shown w) name) (not (is_name_in_use (all_shown w) name)) h in
-          let u = used_named (all_shown w) name (name_used w name lawful (given_shown w name lawful a.0) (ap not e)) in
-          let f = not-true (is_name_in_use (all_shown w) name) a.1 in
-          absurd cc
-    ])
+freed_are_shown_unused w name lawful =
+    freed_given w.graph w.freed (all_shown w) (λ name. names_are_given w name lawful) lawful.freed_there (λ o. unfreed_are_shown w o lawful) name

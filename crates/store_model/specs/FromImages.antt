@@ -90,6 +90,7 @@ pub record AreImagesOf (slots_on fields_on : ℕ → ℕ) (images : List (List S
   pub count : (page : ℕ) → page < length images → length (slice_index_or images page []) ≡ slots_on page
   pub slots : (page slot : ℕ) → page < length images → slot < slots_on page → IsSlot (fields_on page) (slot_in images page slot)
 
+-- so it is in the store that opens to them
 abbrev pub AreImages : List (List SlotParts) → Type 0
 AreImages images = AreImagesOf (slots_of (world_of 0 0 images)) (fields_of (world_of 0 0 images)) images
 
