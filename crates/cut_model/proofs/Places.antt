@@ -14,8 +14,7 @@ use Rattle.object_graph.proofs.Paths.{name_of, has_object_in}
 use Rattle.store_model.specs.Lawful.{IsOrderly}
 use Rattle.store_model.specs.Worlds.{is_unfreed}
 use Rattle.cut_model.specs.States.{generation_with, generation_at}
-use Rattle.store_model.specs.Images.{unfreed_at}
-use Rattle.store_model.specs.Images.{no_slot, object_in, objects_of}
+use Rattle.store_model.specs.Images.{unfreed_at, no_slot, object_in, objects_of}
 use Rattle.cut_model.specs.CutPages.{CutPage, bare_page, settled_image, cut_graph, IsMarked}
 use Rattle.cut_model.specs.Sound.{IsSafeObject}
 use Rattle.cut_model.specs.Doomed.{IsDoomed, AreDoomedOn, AreMarks, is_used, is_doomed}

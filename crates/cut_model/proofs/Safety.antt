@@ -16,9 +16,8 @@ use Rattle.object_graph.proofs.Paths.{name_eq_same, has_object_in, in_has_object
 use Rattle.store_model.proofs.OutOfReach.{unreached_is_out, reached_unfreed}
 use Rattle.store_model.specs.Lawful.{KeepsLost}
 use Rattle.store_model.specs.Worlds.{is_unfreed, is_old, IsLost}
-use Rattle.store_model.specs.Images.{shown}
+use Rattle.store_model.specs.Images.{shown, objects_of}
 use Rattle.cut_model.specs.States.{State, state_of}
-use Rattle.store_model.specs.Images.{objects_of}
 use Rattle.cut_model.specs.CutPages.{CutPage, bare_page, settled_image, cut_graph, IsMarked}
 use Rattle.cut_model.specs.Sound.{IsBornRight, IsSound, IsClosedBeside}
 use Rattle.cut_model.specs.Doomed.{IsDoomed, IsSafeToFree, KeepsDoomed}

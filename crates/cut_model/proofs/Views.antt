@@ -21,10 +21,8 @@ use Rattle.store_model.proofs.Cuts.{next_name_is_new}
 use Rattle.store_model.proofs.OutOfReach.{safe_one}
 use Rattle.store_model.specs.Lawful.{IsOrderly}
 use Rattle.store_model.specs.Worlds.{is_unfreed, IsLost}
-use Rattle.store_model.specs.Images.{shown_in, shown}
+use Rattle.store_model.specs.Images.{shown_in, shown, unfreed_at, objects_of}
 use Rattle.cut_model.specs.States.{generation_with, generation_at, KeepsOpening}
-use Rattle.store_model.specs.Images.{unfreed_at}
-use Rattle.store_model.specs.Images.{objects_of}
 use Rattle.cut_model.specs.Sound.{IsSafeObject, IsSafeImage}
 use Rattle.store_model.proofs.Shown.{in_shown}
 
