@@ -1,0 +1,9 @@
+pub mod AreaLaws
+pub mod FileLaws
+pub mod GrammarLaws
+pub mod ImageReads
+pub mod ImageSteps
+pub mod Laying
+pub mod Moments
+pub mod ScanSteps
+pub mod WalkLaws
