@@ -7,7 +7,10 @@ use Rattle.page_image.specs.Pages.{PageParts}
 use Rattle.page_image.specs.Fields.{page_at}
 use Rattle.redo_journal.specs.Record.{RecordParts, image_at, images_at, kind_at, is_count, count_at, record_at, grammar, commits_of, commits_in}
 use Rattle.redo_journal.specs.Results.{◌>>=◌, from_place}
+use Rattle.redo_journal.specs.Judging.{IsFaultIn}
 use Rattle.redo_journal.specs.declared.kind.Kind.{Kind}
+use Rattle.redo_journal.specs.declared.faults.AreaFault.{AreaFault}
+use Rattle.redo_journal.specs.declared.faults.AreaFault.TheVariants.{DiskFault, BadRecord, Memory}
 use Rattle.redo_journal.specs.Walk.{weights}
 use Rattle.redo_journal.proofs.WalkLaws.{IsLocal}
 
@@ -114,18 +117,24 @@ pub record_read : (pages place done : ℕ) (bytes : List ℕ) (kind : Kind) (cou
 unfolding record_at
 record_read pages place done bytes kind count images k n i = rw (k, n, i) refl
 
--- the place of the first wrong field of a record, at its kind, at its count and at its pages
-pub kind_wrong : (pages place done wrong : ℕ) (bytes : List ℕ) → kind_at place done (get_or bytes 0 0) ≡ Err wrong → record_at pages place done bytes ≡ Err wrong
+-- the fault of a record, at its kind, at its count and at its pages
+pub kind_fault : (pages place done : ℕ) (bytes : List ℕ) (fault : AreaFault) → IsFaultIn (kind_at place done (get_or bytes 0 0)) fault → IsFaultIn (record_at pages place done bytes) fault
 unfolding record_at
-kind_wrong pages place done wrong bytes k = rw k refl
+kind_fault pages place done bytes DiskFault is = is
+kind_fault pages place done bytes (BadRecord at) is = rw is refl
+kind_fault pages place done bytes Memory is = is
 
-pub count_wrong : (pages place done wrong : ℕ) (bytes : List ℕ) (kind : Kind) → kind_at place done (get_or bytes 0 0) ≡ Ok kind → count_at (place + 1) kind (length bytes) (from_be_bytes w32 (take 4 (drop 1 bytes))) ≡ Err wrong → record_at pages place done bytes ≡ Err wrong
+pub count_fault : (pages place done : ℕ) (bytes : List ℕ) (kind : Kind) (fault : AreaFault) → kind_at place done (get_or bytes 0 0) ≡ Ok kind → IsFaultIn (count_at (place + 1) kind (length bytes) (from_be_bytes w32 (take 4 (drop 1 bytes)))) fault → IsFaultIn (record_at pages place done bytes) fault
 unfolding record_at
-count_wrong pages place done wrong bytes kind k n = rw (k, n) refl
+count_fault pages place done bytes kind DiskFault k is = is
+count_fault pages place done bytes kind (BadRecord at) k is = rw (k, is) refl
+count_fault pages place done bytes kind Memory k is = is
 
-pub pages_wrong : (pages place done wrong : ℕ) (bytes : List ℕ) (kind : Kind) (count : ℕ) → kind_at place done (get_or bytes 0 0) ≡ Ok kind → count_at (place + 1) kind (length bytes) (from_be_bytes w32 (take 4 (drop 1 bytes))) ≡ Ok count → images_at pages (place + 5) 0 count (drop 5 bytes) ≡ Err wrong → record_at pages place done bytes ≡ Err wrong
+pub pages_fault : (pages place done : ℕ) (bytes : List ℕ) (kind : Kind) (count : ℕ) (fault : AreaFault) → kind_at place done (get_or bytes 0 0) ≡ Ok kind → count_at (place + 1) kind (length bytes) (from_be_bytes w32 (take 4 (drop 1 bytes))) ≡ Ok count → IsFaultIn (images_at pages (place + 5) 0 count (drop 5 bytes)) fault → IsFaultIn (record_at pages place done bytes) fault
 unfolding record_at
-pages_wrong pages place done wrong bytes kind count k n i = rw (k, n, i) refl
+pages_fault pages place done bytes kind count DiskFault k n is = is
+pages_fault pages place done bytes kind count (BadRecord at) k n is = rw (k, n, is) refl
+pages_fault pages place done bytes kind count Memory k n is = is
 
 pub record_none : (pages place done : ℕ) (bytes : List ℕ) → length bytes ≡ 0 → record_at pages place done bytes ≡ Err place
 unfolding record_at kind_at
