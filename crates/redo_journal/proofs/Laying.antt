@@ -113,6 +113,14 @@ last-append [] ys page = nothing (last_image ys page)
     nothing None = refl
 last-append (x ∷ xs) ys page = ap (λ (o : Option PageParts). later o (only x page)) (last-append xs ys page) ∙ later-assoc (last_image ys page) (last_image xs page) (only x page)
 
+-- over nothing each page has the last of them
+pub laid_first : (xs b : List PageParts) → IsLaidOver xs [] b → (page : ℕ) → image_of b page ≡ last_image xs page
+laid_first xs b laid page = laid page ∙ alone (last_image xs page)
+  where
+    alone : (o : Option PageParts) → later o None ≡ o
+    alone (Some p) = refl
+    alone None = refl
+
 pub laid_nothing : (a : List PageParts) → IsLaidOver [] a a
 laid_nothing a page = refl
 
