@@ -16,7 +16,7 @@ abbrev pub Rises : ℕ → List PageParts → Type 0
 Rises low [] = ⊤
 Rises low (p ∷ ps) = (low ≤ p.number) × Rises (p.number + 1) ps
 
-abbrev Starts : ℕ → List PageParts → Type 0
+abbrev pub Starts : ℕ → List PageParts → Type 0
 Starts low [] = ⊤
 Starts low (p ∷ ps) = low ≤ p.number
 
@@ -31,7 +31,7 @@ from_rises low (p ∷ []) r k lt = absurd (omega (arith, lt))
 from_rises low (p ∷ q ∷ ps) r zero lt = omega (arith, r.1.0)
 from_rises low (p ∷ q ∷ ps) r (suc k) lt = simp unary_clauses (simp unary_clauses at (from_rises (p.number + 1) (q ∷ ps) r.1 k (omega (arith, lt))))
 
-any_start : (xs : List PageParts) → Starts 0 xs
+pub any_start : (xs : List PageParts) → Starts 0 xs
 any_start [] = tt
 any_start (p ∷ ps) = omega arith
 

@@ -1,3 +1,4 @@
+pub mod Appending
 pub mod AreaLaws
 pub mod FileLaws
 pub mod GrammarLaws
@@ -6,4 +7,5 @@ pub mod ImageSteps
 pub mod Laying
 pub mod Moments
 pub mod ScanSteps
+pub mod Spelled
 pub mod WalkLaws

@@ -19,4 +19,4 @@ returns-clause-front c =
     both at c.args.out.now c.put.new.out c.put-2.new.out (to_be_bytes w32 c.args.image.now.number) (page_bytes c.args.image.now) one two
 
 pub returns-clause-again : goal.returns-clause-again
-returns-clause-again c = ap page_at (sym c.encode.ensures.spelled) ∙ c.encode.ensures.again
+returns-clause-again c = record { long = ap length (sym c.encode.ensures.spelled) ∙ c.encode.array_long; again = ap page_at (sym c.encode.ensures.spelled) ∙ c.encode.ensures.again }

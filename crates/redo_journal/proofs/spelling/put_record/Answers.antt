@@ -3,9 +3,7 @@ use Rattle.std.specs.List.{AllByRecursion, flat_map}
 use Rattle.std.specs.Int.{w32, to_be_bytes}
 use Rattle.std.proofs.lemmas.List.{flat_map_more, take_more}
 use Rattle.page_image.specs.Pages.{PageParts}
-use Rattle.page_image.specs.Fields.{page_at}
-use Rattle.page_image.specs.Spelling.{page_bytes}
-use Rattle.redo_journal.specs.Record.{image_bytes, kind_byte}
+use Rattle.redo_journal.specs.Record.{ReadsBack, image_bytes, kind_byte}
 use Rattle.redo_journal.proofs.spelling.put_record.Goals as goal
 
 all_push : {X : Type 0} (P : X → Type 0) (xs : List X) (x : X) → AllByRecursion P xs → P x → AllByRecursion P (xs ++ x ∷ [])
@@ -28,5 +26,5 @@ loop-i-preserved c =
           ∙ ap (λ (b : List ℕ). b ++ image_bytes image) l.invariant.front
           ∙ ap head (flat_map_more image_bytes [] (take l.i xs) image ∙ ap (λ (ps : List PageParts). flat_map image_bytes ps) (sym more));
       long = c.put_image.ensures.long ∙ l.invariant.long;
-      again = subst (λ (ps : List PageParts). AllByRecursion (λ p. page_at (page_bytes p) ≡ Ok p) ps) (sym more) (all_push (λ p. page_at (page_bytes p) ≡ Ok p) (take l.i xs) image l.invariant.again c.put_image.ensures.again);
+      again = subst (λ (ps : List PageParts). AllByRecursion ReadsBack ps) (sym more) (all_push ReadsBack (take l.i xs) image l.invariant.again c.put_image.ensures.again);
     }
