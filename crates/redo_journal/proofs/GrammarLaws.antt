@@ -35,15 +35,26 @@ piece_same : (i m k : ℕ) (xs ys : List ℕ) → i + m ≤ k → take k xs ≡ 
 piece_same i m k xs ys le same =
     sym (drop-take i m xs) ∙ ap (λ (l : List ℕ). drop i l) (sym (take-take (i + m) k xs le) ∙ ap (λ (l : List ℕ). take (i + m) l) same ∙ take-take (i + m) k ys le) ∙ drop-take i m ys
 
+image_same : (pages place low : ℕ) (xs ys : List ℕ) → take 4 xs ≡ take 4 ys → take 1024 (drop 4 xs) ≡ take 1024 (drop 4 ys) → image_at pages place low xs ≡ image_at pages place low ys
+unfolding image_at
+image_same pages place low xs ys number image = rw (number, image) refl
+
+bind_same : {A B : Type 0} (r s : Result A ℕ) (f g : A → Result B ℕ) → r ≡ s → ((x : A) → f x ≡ g x) → (r >>= f) ≡ (s >>= g)
+bind_same (Ok x) s f g same each = each x ∙ ap (λ (q : Result _ ℕ). q >>= g) same
+bind_same (Err at) s f g same each = ap (λ (q : Result _ ℕ). q >>= g) same
+
 images_same : (pages place low n : ℕ) (xs ys : List ℕ) → take (1028 * n) xs ≡ take (1028 * n) ys → images_at pages place low n xs ≡ images_at pages place low n ys
-unfolding images_at image_at
+unfolding images_at
 images_same pages place low zero xs ys same = refl
 images_same pages place low (suc n) xs ys same =
     let number : take 4 xs ≡ take 4 ys = piece_same 0 4 (1028 * suc n) xs ys (omega arith) same in
     let image : take 1024 (drop 4 xs) ≡ take 1024 (drop 4 ys) = piece_same 4 1024 (1028 * suc n) xs ys (omega arith) same in
-    let first : image_at pages place low xs ≡ image_at pages place low ys = simp (number, image) refl in
     let rest : (low' : ℕ) → images_at pages (place + 1028) low' n (drop 1028 xs) ≡ images_at pages (place + 1028) low' n (drop 1028 ys) = λ low'. images_same pages (place + 1028) low' n (drop 1028 xs) (drop 1028 ys) (piece_same 1028 (1028 * n) (1028 * suc n) xs ys (omega arith) same) in
-    simp (first, rest) refl
+    bind_same (image_at pages place low xs) (image_at pages place low ys)
+    (λ (p : PageParts). images_at pages (place + 1028) (p.number + 1) n (drop 1028 xs) >>= λ (others : List PageParts). ok (p ∷ others))
+    (λ (p : PageParts). images_at pages (place + 1028) (p.number + 1) n (drop 1028 ys) >>= λ (others : List PageParts). ok (p ∷ others))
+    (image_same pages place low xs ys number image)
+    (λ p. ap (λ (r : Result (List PageParts) ℕ). r >>= λ (others : List PageParts). ok (p ∷ others)) (rest (p.number + 1)))
 
 pub images_length : (pages place low n : ℕ) (xs : List ℕ) (images : List PageParts) → images_at pages place low n xs ≡ Ok images → length images ≡ n
 unfolding images_at
