@@ -1,6 +1,6 @@
 //! The journal of a store.
 ghost use Rattle.std.specs.Prelude.{◌≡◌, ◌≤◌, ◌<◌, ◌+◌, ◌↔◌, ◌++◌, ◌∷◌, [], List, ℕ, Some, None, IfSome, IsSomeAnd, IfOk, OnOk, OnErr, IsErrOf, Err, length, vec_capacity};
-ghost use Rattle.disk_trait.specs.Causes.{Rose};
+ghost use Rattle.disk_trait.specs.Causes.{Rose, SameTold};
 ghost use Rattle.disk_trait.specs.Disk.{Only, SameImages, IsSynced, LeavesOnly};
 ghost use Rattle.page_image.specs.Pages.{PageParts};
 ghost use Rattle.redo_journal.specs.Area.{area_size, area_start, area_of, read_area, most_commits};
@@ -199,8 +199,10 @@ impl Journal {
         ensures no_room { (result ≡ Err (AppendFault.NoRoom (need_of self.old.staged) (left_of self.old))) ↔ (left_of self.old < need_of self.old.staged) }
         ensures no_call { left_of self.old < need_of self.old.staged → disk.new ≡ disk.old }
         ensures unchanged { OnErr result (self.new ≡ self.old) }
+
         ensures fault { IsErrOf result AppendFault.DiskFault → Rose (D.fault_count disk.old) (D.fault_count disk.new) }
         ensures later { D.fault_count disk.old ≤ D.fault_count disk.new }
+        ensures told { SameTold (D.content disk.old) (D.content disk.new) }
         ensures size { D.size disk.new ≡ D.size disk.old }
     {
         let need = self.need();
