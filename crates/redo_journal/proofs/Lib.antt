@@ -1,0 +1,11 @@
+pub mod Appending
+pub mod AreaLaws
+pub mod FileLaws
+pub mod GrammarLaws
+pub mod ImageReads
+pub mod ImageSteps
+pub mod Laying
+pub mod Moments
+pub mod ScanSteps
+pub mod Spelled
+pub mod WalkLaws

@@ -1,0 +1,72 @@
+-- What contracts see of a journal, and what it says of a store file.
+use Rattle.std.specs.Prelude.{◌≡◌, ℕ, ◌+◌, ◌-◌, ◌*◌, ◌≤◌, ◌<◌, List, [], ◌∷◌, ◌++◌, Option, Some, None, IfSome, length, option_map}
+use Rattle.disk_trait.specs.Disk.{Torn}
+use Rattle.page_image.specs.Pages.{PageParts}
+use Rattle.redo_journal.specs.Area.{Holds, HoldsBeforeOrAfter, area_size, area_start, first_gate, most_commits}
+use Rattle.redo_journal.specs.Record.{RecordParts, IsRecordOf, grammar, size_of, commits_of, with_image}
+use Rattle.redo_journal.specs.Walk.{taken, weights}
+use Rattle.redo_journal.specs.declared.kind.Kind.{Kind}
+
+-- its area, the pages of the store, the base and the counted commits of the area, where the first closed gate
+-- stands from the area's beginning, and the record that is to be appended next
+pub record JournalParts : Type 0 where
+  pub area : ℕ
+  pub pages : ℕ
+  pub base : ℕ
+  pub commits : ℕ
+  pub end : ℕ
+  pub staged : Option RecordParts
+
+-- a record of these images, if there is a kind
+abbrev pub staged_of : Option Kind → List PageParts → Option RecordParts
+staged_of None images = None
+staged_of (Some kind) images = Some (record { kind = kind; images = images })
+
+-- what each journal keeps
+pub record IsJournal (journal : JournalParts) : Type 0 where
+  pub area : journal.area < 2
+  pub within : journal.end < area_size
+  pub counted : journal.base + journal.commits ≤ most_commits
+  pub staged : IfSome journal.staged (IsRecordOf journal.pages)
+
+-- the journal's area on the file has its base and these records
+pub record HoldsFor (journal : JournalParts) (records : List RecordParts) (file : List ℕ) : Type 0 where
+  pub holds : Holds (grammar journal.pages) journal.area journal.base records file
+  pub end : journal.end ≡ first_gate + taken (grammar journal.pages) records
+  pub commits : journal.commits ≡ weights (grammar journal.pages) records
+
+-- the file is this journal's
+abbrev pub IsOn : JournalParts → List ℕ → Type 0
+IsOn journal file = (records : List RecordParts) × HoldsFor journal records file
+
+-- the length of the staged record with its gate
+abbrev pub need_of : Option RecordParts → ℕ
+need_of None = 0
+need_of (Some r) = size_of r
+
+-- the bytes behind the first closed gate
+abbrev pub left_of : JournalParts → ℕ
+left_of journal = area_size - (journal.end + 1)
+
+-- the journal with an empty record staged
+abbrev pub begun : Kind → JournalParts → JournalParts
+begun kind journal = record journal { staged = Some (record { kind = kind; images = [] }) }
+
+-- the journal with one page more staged
+abbrev pub with_page : PageParts → JournalParts → JournalParts
+with_page image journal = record journal { staged = option_map (with_image image) journal.staged }
+
+-- the journal after a record
+abbrev pub appended : RecordParts → JournalParts → JournalParts
+appended r journal = record journal { commits = journal.commits + commits_of r.kind; end = journal.end + size_of r; staged = None }
+
+-- What a crash leaves while a record is appended: all bytes outside the area, and in it the records from
+-- before, with the new one or without.
+pub record IsAppendedOrNot (journal : JournalParts) (records : List RecordParts) (new : RecordParts) (old file : List ℕ) : Type 0 where
+  pub elsewhere : Torn (area_start journal.area) area_size old file
+  pub area : HoldsBeforeOrAfter (grammar journal.pages) journal.area journal.base records new file
+
+-- the file after the append: all bytes outside the area, and in it the records with the new one
+pub record IsAppended (journal : JournalParts) (records : List RecordParts) (new : RecordParts) (old file : List ℕ) : Type 0 where
+  pub elsewhere : Torn (area_start journal.area) area_size old file
+  pub area : HoldsFor journal (records ++ new ∷ []) file

@@ -1,0 +1,9 @@
+pub mod Area
+pub mod Gated
+pub mod Homes
+pub mod Journals
+pub mod Judging
+pub mod Record
+pub mod Replays
+pub mod Results
+pub mod Walk

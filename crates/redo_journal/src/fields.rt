@@ -1,0 +1,121 @@
+//! Reading the fields of a record.
+ghost use Rattle.std.specs.Prelude.{◌≡◌, ◌≤◌, ◌<◌, ◌+◌, ◌*◌, ◌^◌, Ok, Err, length, take, drop, slice_index, IfOk};
+ghost use Rattle.std.specs.Int.{w32, w64, from_be_bytes};
+ghost use Rattle.page_image.specs.Fields.{page_at};
+ghost use Rattle.redo_journal.specs.Area.{most_commits, base_in};
+ghost use Rattle.redo_journal.specs.Judging.{Gives};
+ghost use Rattle.redo_journal.specs.Record.{is_count, kind_at, count_at, image_at};
+ghost use Rattle.redo_journal.specs.Results.{from_place};
+ghost use Rattle.redo_journal.specs.declared.kind.Kind.TheVariants.{Commit};
+
+use crate::faults::AreaFault;
+use crate::kind::Kind;
+use page_image::Page;
+
+/// The most commits that a store counts.
+pub(crate) const MOST_COMMITS: u64 = 1 << 48;
+
+/// The most pages of a record.
+pub(crate) const MOST_IMAGES: u32 = 64;
+
+/// The bytes of a page's image.
+pub(crate) const PAGE_SIZE: usize = 1024;
+
+/// The bytes of a page in a record: its number and its image.
+pub(crate) const IMAGE_SIZE: usize = 1028;
+
+/// The bytes of a record around its pages: kind, count and the gate behind it.
+pub(crate) const FRAME_SIZE: usize = 6;
+
+/// The base of an area.
+pub(crate) fn base_of(bytes: &[u8]) -> u64
+    requires { 8 ≤ length bytes.now }
+    ensures { result ≡ base_in bytes.now }
+{
+    u64::from_be_bytes([
+        bytes[0], bytes[1], bytes[2], bytes[3], bytes[4], bytes[5], bytes[6], bytes[7],
+    ])
+}
+
+fn u32_of(bytes: &[u8]) -> u32
+    requires { 4 ≤ length bytes.now }
+    ensures { result ≡ from_be_bytes w32 (take 4 bytes.now) }
+{
+    u32::from_be_bytes([bytes[0], bytes[1], bytes[2], bytes[3]])
+}
+
+/// The kind of a record that stands behind so many commits.
+#[tactic(auto, unfolding(crate::specs::Record::kind_at))]
+pub(crate) fn kind_of(byte: u8, place: u64, done: u64) -> Result<Kind, AreaFault>
+    ensures value { Gives (kind_at place done byte) result }
+    ensures unspent { IfOk result (λ kind. kind ≡ Commit → done < most_commits) }
+{
+    match byte {
+        1 if done < MOST_COMMITS => Ok(Kind::Commit),
+        2 => Ok(Kind::Sweep),
+        _ => Err(AreaFault::BadRecord { at: place }),
+    }
+}
+
+/// Whether a record of this kind may have so many pages.
+fn is_right(kind: Kind, count: u32) -> bool
+    ensures { result ≡ is_count kind count }
+{
+    match kind {
+        Kind::Commit => count <= MOST_IMAGES,
+        Kind::Sweep => count == 1,
+    }
+}
+
+/// The count of a record, from the bytes of its kind on.
+pub(crate) fn count_of(bytes: &[u8], kind: Kind, place: u64) -> Result<u32, AreaFault>
+    requires { 1 ≤ length bytes.now }
+    ensures value { Gives (count_at place kind (length bytes.now) (from_be_bytes w32 (take 4 (drop 1 bytes.now)))) result }
+    ensures room { IfOk result (λ count. 6 + 1028 * count ≤ length bytes.now) }
+    ensures few { IfOk result (λ count. count ≤ 64) }
+{
+    if bytes.len() < 5 {
+        return Err(AreaFault::BadRecord { at: place });
+    }
+    let count = u32_of(bytes.split_at(1).1);
+    if is_right(kind, count) && FRAME_SIZE + IMAGE_SIZE * count as usize <= bytes.len() {
+        Ok(count)
+    } else {
+        Err(AreaFault::BadRecord { at: place })
+    }
+}
+
+/// The page that these bytes spell.
+fn page_of(bytes: &[u8], place: u64) -> Result<Page, AreaFault>
+    requires long { 1024 ≤ length bytes.now }
+    requires small { place < 2 ^ 41 }
+    ensures { Gives (from_place place (page_at (take 1024 bytes.now))) result }
+{
+    let mut image = [0; PAGE_SIZE];
+    image.copy_from_slice(bytes.split_at(PAGE_SIZE).0);
+    match Page::decode(&image) {
+        Ok(page) => Ok(page),
+        Err(wrong) => Err(AreaFault::BadRecord {
+            at: place + u64::from(wrong.at),
+        }),
+    }
+}
+
+/// A page with its number, which is at least `low`.
+pub(crate) fn image_of(bytes: &[u8], pages: u32, place: u64, low: u32) -> Result<Page, AreaFault>
+    requires long { 1028 ≤ length bytes.now }
+    requires small { place < 2 ^ 40 }
+    ensures value { Gives (image_at pages place low bytes.now) result }
+    ensures below { IfOk result (λ page. page.number < pages) }
+{
+    let number = u32_of(bytes);
+    if number < low || number >= pages {
+        return Err(AreaFault::BadRecord { at: place });
+    }
+    let page = page_of(bytes.split_at(4).1, place + 4)?;
+    if page.number() == number {
+        Ok(page)
+    } else {
+        Err(AreaFault::BadRecord { at: place + 8 })
+    }
+}

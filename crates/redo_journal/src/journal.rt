@@ -1,0 +1,223 @@
+//! The journal of a store.
+ghost use Rattle.std.specs.Prelude.{◌≡◌, ◌≤◌, ◌<◌, ◌+◌, ◌↔◌, ◌++◌, ◌∷◌, [], List, ℕ, Some, None, IfSome, IsSomeAnd, IfOk, OnOk, OnErr, IsErrOf, Err, length, vec_capacity};
+ghost use Rattle.disk_trait.specs.Causes.{Rose, SameTold};
+ghost use Rattle.disk_trait.specs.Disk.{Only, SameImages, IsSynced, LeavesOnly};
+ghost use Rattle.page_image.specs.Pages.{PageParts};
+ghost use Rattle.redo_journal.specs.Area.{area_size, area_start, area_of, read_area, most_commits};
+ghost use Rattle.redo_journal.specs.Homes.{store_size};
+ghost use Rattle.redo_journal.specs.Journals.{JournalParts, HoldsFor, IsOn, need_of, left_of, begun, with_page, appended, IsAppendedOrNot, IsAppended};
+ghost use Rattle.redo_journal.specs.Record.{RecordParts, IsRecordOf, grammar, with_image};
+ghost use Rattle.redo_journal.specs.Replays.{IsReplay, IsReplayFor};
+ghost use Rattle.redo_journal.specs.declared.kind.Kind.TheVariants.{Commit, Sweep};
+
+use crate::area::{AREA_SIZE, read_area, start_of};
+use crate::faults::{AppendFault, AreaFault};
+use crate::fields::{FRAME_SIZE, IMAGE_SIZE, MOST_IMAGES};
+use crate::gated::write_record;
+use crate::kind::Kind;
+use crate::replay::Replay;
+use crate::scan::{counted, scan};
+use disk_trait::Disk;
+use page_image::Page;
+use std::alloc::{AllocError, Global};
+use std::marker::Model;
+
+/// The bytes of the longest record with its gate.
+const ROOM: usize = FRAME_SIZE + IMAGE_SIZE * MOST_IMAGES as usize;
+
+/// The journal of a store: which of the two areas is its own, what that area holds, and the record
+/// that is to be appended next. All room is made by `open_area`; no other call takes memory
+/// (FORMATS.md, "Journal").
+#[derive(Drop)]
+pub struct Journal {
+    pub(crate) area: u32,
+    pub(crate) pages: u32,
+    pub(crate) base: u64,
+    pub(crate) commits: u64,
+    /// Where the first closed gate stands, from the area's beginning.
+    pub(crate) end: u64,
+    /// The kind of the staged record, if there is one, and its images.
+    pub(crate) kind: Option<Kind>,
+    pub(crate) images: Vec<Page>,
+    /// Room for the bytes of a record.
+    pub(crate) buffer: Vec<u8>,
+}
+
+impl Model for Journal {
+    ghost use Rattle.std.specs.Prelude.{◌≡◌, ◌≤◌, length, vec_len, vec_capacity};
+    ghost use Rattle.redo_journal.specs.Journals.{JournalParts, IsJournal, staged_of};
+
+    ghost Value = { JournalParts };
+
+    ghost view = { λ j. record { area = j.area; pages = j.pages; base = j.base; commits = j.commits; end = j.end; staged = staged_of j.kind j.images.items } };
+
+    ghost invariant = { λ j. IsJournal (record { area = j.area; pages = j.pages; base = j.base; commits = j.commits; end = j.end; staged = staged_of j.kind j.images.items })
+        × (64 ≤ vec_capacity j.images) × (length j.buffer.items ≡ 65798) };
+}
+
+/// Room for a record: its images and its bytes.
+fn room(alloc: Global) -> Result<(Vec<Page>, Vec<u8>), AllocError>
+    ensures images { IfOk result (λ x. 64 ≤ vec_capacity x.0) }
+    ensures bytes { IfOk result (λ x. length x.1.items ≡ 65798) }
+{
+    let images = Vec::with_capacity(alloc, MOST_IMAGES as usize)?;
+    let bytes = vec![in alloc; 0u8; ROOM]?;
+    Ok((images, bytes))
+}
+
+impl Journal {
+    /// Reads an area of a store of so many pages. The answer has the last image of each page that its
+    /// records name; its commits are those of the area, without the base.
+    pub fn open_area<D: Disk>(
+        alloc: Global,
+        disk: &mut D,
+        area: u32,
+        pages: u32,
+    ) -> Result<(Journal, Replay), AreaFault>
+        requires which { area < 2 }
+        requires long { store_size pages ≤ D.size disk.old }
+
+        ensures asked { IfOk result (λ x. (x.0.area ≡ area) × (x.0.pages ≡ pages) × (x.0.staged ≡ None)) }
+        ensures replay { IfOk result (λ x. IsReplayFor x.0 x.1) }
+
+        // What it answers is what the disk's area says, or the place of the first wrong field.
+        ensures found { IfOk result (λ x. IfSome (D.content disk.old) (λ c. (records : List RecordParts) × HoldsFor x.0 records c × IsReplay records x.1)) }
+        ensures bad { (at : ℕ) → result ≡ Err (AreaFault.BadRecord at) → IfSome (D.content disk.old) (λ c. read_area (grammar pages) (area_start area) (area_of area c) ≡ Err at) }
+
+        ensures fault { IsErrOf result AreaFault.DiskFault → Rose (D.fault_count disk.old) (D.fault_count disk.new) }
+        ensures later { D.fault_count disk.old ≤ D.fault_count disk.new }
+
+        // The disk stays as it is.
+        ensures content { D.content disk.new ≡ D.content disk.old }
+        ensures images { SameImages (D.may_leave disk.old) (D.may_leave disk.new) }
+        ensures size { D.size disk.new ≡ D.size disk.old }
+        ensures any_moment { LeavesOnly D.moment D.left_since disk.old disk.new (D.may_leave disk.old) }
+    {
+        let bytes = read_area(alloc, disk, area)?;
+        let found = scan(alloc, &bytes, pages, start_of(area))?;
+        let Ok((images, buffer)) = room(alloc) else {
+            return Err(AreaFault::Memory);
+        };
+        let journal = Journal {
+            area,
+            pages,
+            base: found.replay.base,
+            commits: found.replay.commits,
+            end: found.end,
+            kind: None,
+            images,
+            buffer,
+        };
+        Ok((journal, found.replay))
+    }
+
+    /// The area for which the journal stands: 0 or 1.
+    pub fn area(&self) -> u32
+        ensures value { result ≡ self.now.area }
+        ensures which { result < 2 }
+    {
+        self.area
+    }
+
+    /// The count of pages of the store.
+    pub fn pages(&self) -> u32
+        ensures { result ≡ self.now.pages }
+    {
+        self.pages
+    }
+
+    /// The number of commits before the area.
+    pub fn base(&self) -> u64
+        ensures { result ≡ self.now.base }
+    {
+        self.base
+    }
+
+    /// The number of counted commits of the area, without the base.
+    pub fn commits(&self) -> u64
+        ensures value { result ≡ self.now.commits }
+        ensures bound { self.now.base + self.now.commits ≤ most_commits }
+    {
+        self.commits
+    }
+
+    /// Begins an empty record. One that was staged is dropped.
+    pub fn stage(&mut self, kind: Kind)
+        ensures { self.new ≡ begun kind self.old }
+    {
+        self.images.clear();
+        self.kind = Some(kind);
+    }
+
+    /// Adds a page to the staged record, whose pages ascend: at most 64, and at most one of a sweep.
+    pub fn stage_page(&mut self, image: &Page)
+        requires { IsSomeAnd self.old.staged (λ r. IsRecordOf self.old.pages (with_image image.now r)) }
+        ensures { self.new ≡ with_page image.now self.old }
+    {
+        self.images.push_reserved(*image);
+    }
+
+    /// The length of the staged record with its gate in bytes, or 0 where none is staged.
+    pub fn need(&self) -> u64
+        ensures { result ≡ need_of self.now.staged }
+    {
+        match self.kind {
+            Some(_) => (FRAME_SIZE + IMAGE_SIZE * self.images.len()) as u64,
+            None => 0,
+        }
+    }
+
+    /// The bytes of the area behind its first closed gate.
+    pub fn left(&self) -> u64
+        ensures { result ≡ left_of self.now }
+    {
+        AREA_SIZE - (self.end + 1)
+    }
+
+    /// Writes the staged record behind the last one, by four calls of the disk: the record with a
+    /// closed gate behind it, a sync, the open gate before it, a sync. After `DiskFault` the journal
+    /// must be opened again.
+    pub fn append<D: Disk>(&mut self, disk: &mut D) -> Result<(), AppendFault>
+        requires staged { IsSomeAnd self.old.staged (λ r. r.kind ≡ Sweep → length r.images ≡ 1) }
+        requires unspent { IfSome self.old.staged (λ r. r.kind ≡ Commit → self.old.base + self.old.commits < most_commits) }
+        requires long { store_size self.old.pages ≤ D.size disk.old }
+        requires own { IfSome (D.content disk.old) (IsOn self.old) }
+
+        // After a crash at any moment the records are those from before, with the new one or without.
+        ensures any_moment { (c : List ℕ) (records : List RecordParts) (new : RecordParts)
+            → D.content disk.old ≡ Some c → Only c (D.may_leave disk.old) → HoldsFor self.old records c → self.old.staged ≡ Some new
+            → LeavesOnly D.moment D.left_since disk.old disk.new (IsAppendedOrNot self.old records new c) }
+
+        // From `Ok` on each crash leaves the new one.
+        ensures acknowledged { OnOk result ((c : List ℕ) (records : List RecordParts) (new : RecordParts)
+            → D.content disk.old ≡ Some c → HoldsFor self.old records c → self.old.staged ≡ Some new
+            → IsSomeAnd (D.content disk.new) (IsAppended self.new records new c)) }
+        ensures synced { OnOk result (IsSynced (D.content disk.new) (D.may_leave disk.new)) }
+        ensures appended { OnOk result (IfSome self.old.staged (λ r. self.new ≡ appended r self.old)) }
+
+        // It is refused for want of room exactly where the record is too long, without a call of the disk.
+        ensures no_room { (result ≡ Err (AppendFault.NoRoom (need_of self.old.staged) (left_of self.old))) ↔ (left_of self.old < need_of self.old.staged) }
+        ensures no_call { left_of self.old < need_of self.old.staged → disk.new ≡ disk.old }
+        ensures unchanged { OnErr result (self.new ≡ self.old) }
+
+        ensures fault { IsErrOf result AppendFault.DiskFault → Rose (D.fault_count disk.old) (D.fault_count disk.new) }
+        ensures later { D.fault_count disk.old ≤ D.fault_count disk.new }
+        ensures told { SameTold (D.content disk.old) (D.content disk.new) }
+        ensures size { D.size disk.new ≡ D.size disk.old }
+    {
+        let need = self.need();
+        let left = self.left();
+        if left < need {
+            return Err(AppendFault::NoRoom { need, left });
+        }
+        let Some(kind) = self.kind else {
+            unreachable!();
+        };
+        let gate = start_of(self.area) + self.end;
+        write_record(disk, gate, kind, &self.images, &mut self.buffer)?;
+        self.commits += counted(kind);
+        self.end += need;
+        self.kind = None;
+        Ok(())
+    }
+}

@@ -1,0 +1,21 @@
+//! The redo journal: two areas of records, each behind a gate. A record counts exactly where the gate
+//! before it is open, and a closed gate stands behind the last record, on the disk before anything is
+//! written behind it (FORMATS.md, "Journal").
+#![tactic(auto)]
+
+mod area;
+mod faults;
+mod fields;
+mod gated;
+mod journal;
+mod kind;
+mod replay;
+mod scan;
+mod spelling;
+#[cfg(test)]
+mod tests;
+
+pub use faults::{AppendFault, AreaFault};
+pub use journal::Journal;
+pub use kind::Kind;
+pub use replay::Replay;
