@@ -1,1 +1,4 @@
+mod HomeBytes
+mod HomeImages
+mod HomeMoments
 mod Turning

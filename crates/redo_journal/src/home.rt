@@ -1,5 +1,5 @@
 //! Sending the images of counted records home.
-ghost use Rattle.std.specs.Prelude.{◌≡◌, ◌≤◌, ◌<◌, ◌+◌, ◌*◌, ℕ, List, Some, IfOk, IfSome, IsSomeAnd, OnOk, OnErr, length, option_map};
+ghost use Rattle.std.specs.Prelude.{◌≡◌, ◌≤◌, ◌<◌, ◌+◌, ◌*◌, ℕ, List, [], ◌∷◌, Some, IfOk, IfSome, IsSomeAnd, OnOk, length, option_map};
 ghost use Rattle.disk_trait.specs.Causes.{HasCause, SameTold};
 ghost use Rattle.disk_trait.specs.Disk.{piece, written, Torn, Only, SameImages, IsSynced, TornContent, LeavesOnly};
 ghost use Rattle.page_image.specs.Pages.{PageParts};
@@ -7,7 +7,7 @@ ghost use Rattle.redo_journal.specs.Homes.{home_start, store_size, DiffersInHome
 ghost use Rattle.redo_journal.specs.Journals.{HoldsFor, IsOn};
 ghost use Rattle.redo_journal.specs.Record.{RecordParts};
 ghost use Rattle.redo_journal.specs.Replays.{is_named, images_in};
-ghost use Rattle.redo_journal.specs.Sending.{number_at, image_behind, AreImagesAt, AreRecordsAt, is_among, AreHome, After, ChangesHomes};
+ghost use Rattle.redo_journal.specs.Sending.{number_at, IsImageAt, AreImagesAt, AreRecordsAt, is_among, AreHome, After, ChangesHomes};
 
 use crate::area::start_of;
 use crate::fields::{FRAME_SIZE, IMAGE_SIZE, PAGE_SIZE};
@@ -36,7 +36,7 @@ fn copy_image<D: Disk>(disk: &mut D, from: u64, to: u64) -> Result<(), Failed>
     requires from { from + 1024 ≤ D.size disk.old }
     requires to { to + 1024 ≤ D.size disk.old }
     ensures copied { OnOk result (D.content disk.new ≡ option_map (λ c. written to (piece from 1024 c) c) (D.content disk.old)) }
-    ensures failed { OnErr result (TornContent to 1024 (D.content disk.old) (D.content disk.new)) }
+    ensures torn { TornContent to 1024 (D.content disk.old) (D.content disk.new) }
     ensures any_moment { LeavesOnly D.moment D.left_since disk.old disk.new (After (Torn to 1024) (D.may_leave disk.old)) }
     ensures size { D.size disk.new ≡ D.size disk.old }
     ensures cause { HasCause (D.fault_count disk.old) (D.fault_count disk.new) result }
@@ -50,9 +50,9 @@ fn copy_image<D: Disk>(disk: &mut D, from: u64, to: u64) -> Result<(), Failed>
 fn send_image<D: Disk>(disk: &mut D, at: u64, pages: u32) -> Result<(), Failed>
     requires within { at + 1028 ≤ 525312 }
     requires long { store_size pages ≤ D.size disk.old }
-    ensures sent { OnOk result ((c : List ℕ) (p : PageParts) → D.content disk.old ≡ Some c → AreImagesAt pages at (p ∷ []) c
+    ensures sent { OnOk result ((c : List ℕ) (p : PageParts) → D.content disk.old ≡ Some c → IsImageAt pages at p c
         → IsSomeAnd (D.content disk.new) (AreHome (p ∷ []) c)) }
-    ensures homes { (c : List ℕ) (p : PageParts) → D.content disk.old ≡ Some c → AreImagesAt pages at (p ∷ []) c
+    ensures homes { (c : List ℕ) (p : PageParts) → D.content disk.old ≡ Some c → IsImageAt pages at p c
         → ChangesHomes D.content D.may_leave D.moment D.left_since (is_among (p ∷ [])) disk.old disk.new }
     ensures told { SameTold (D.content disk.old) (D.content disk.new) }
     ensures size { D.size disk.new ≡ D.size disk.old }
