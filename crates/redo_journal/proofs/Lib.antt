@@ -1,4 +1,5 @@
 mod HomeBytes
 mod HomeImages
 mod HomeMoments
+mod HomeRuns
 mod Turning
