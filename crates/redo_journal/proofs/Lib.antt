@@ -1,5 +1,6 @@
 mod HomeBytes
 mod HomeImages
 mod HomeMoments
+mod HomeRecords
 mod HomeRuns
 mod Turning

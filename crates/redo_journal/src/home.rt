@@ -85,7 +85,8 @@ fn send_images<D: Disk>(disk: &mut D, from: u64, count: u64, pages: u32) -> Resu
 
 /// Sends home the images of the records between two gates. Where no record stands there it stops.
 fn send_records<D: Disk>(disk: &mut D, from: u64, end: u64, pages: u32) -> Result<(), Failed>
-    requires within { end ≤ 525312 }
+    requires begins { from ≤ 525312 }
+    requires ends { end ≤ 525312 }
     requires long { store_size pages ≤ D.size disk.old }
     ensures sent { OnOk result ((c : List ℕ) (records : List RecordParts) → D.content disk.old ≡ Some c → AreRecordsAt pages end from records c
         → IsSomeAnd (D.content disk.new) (AreHome (images_in records) c)) }
