@@ -57,6 +57,11 @@ module _ {D : Type 0} (content : D → Option (List ℕ)) (may_leave : D → Lis
     any_moment = leaves_more old new (After (DiffersInHomes named) (may_leave old)) (After (DiffersInHomes more) (may_leave old)) (λ c left. (left.0, left.1, differs_more named more left.0 c within left.2)) change.any_moment;
   }
 
+  -- where a crash left one content alone before
+  pub from_only : (named : ℕ → Bool) (old new : D) (c : List ℕ) → Only c (may_leave old) → ChangesHomes content may_leave moment left_since named old new → LeavesOnly moment left_since old new (DiffersInHomes named c)
+  from_only named old new c only change =
+      leaves_more old new (After (DiffersInHomes named) (may_leave old)) (DiffersInHomes named c) (λ e left. subst (λ (d : List ℕ). DiffersInHomes named d e) (only left.0 left.1) left.2) change.any_moment
+
   module _ (only_now : (d : D) (c : List ℕ) → left_since d (moment d) c → may_leave d c) where
     -- before the first call
     pub unchanged : (named : ℕ → Bool) (d : D) → ChangesHomes content may_leave moment left_since named d d

@@ -21,7 +21,7 @@ images_still named old new pages at (p ∷ ps) d low stand = (
 )
 
 -- no record stands behind the end
-up_to_end : (pages end at : ℕ) (records : List RecordParts) (file : List ℕ) → AreRecordsAt pages end at records file → at ≤ end
+pub up_to_end : (pages end at : ℕ) (records : List RecordParts) (file : List ℕ) → AreRecordsAt pages end at records file → at ≤ end
 up_to_end pages end at [] file stand = omega (arith, stand)
 up_to_end pages end at (r ∷ rs) file stand = omega (arith, up_to_end pages end (at + size_of r) rs file stand.2)
 

@@ -3,4 +3,5 @@ mod HomeImages
 mod HomeMoments
 mod HomeRecords
 mod HomeRuns
+mod HomeWalks
 mod Turning

@@ -109,6 +109,24 @@ fn send_records<D: Disk>(disk: &mut D, from: u64, end: u64, pages: u32) -> Resul
     Ok(())
 }
 
+/// Sends home the images of the records between two gates, and syncs.
+fn send_and_sync<D: Disk>(disk: &mut D, from: u64, end: u64, pages: u32) -> Result<(), Failed>
+    requires begins { from ≤ 525312 }
+    requires ends { end ≤ 525312 }
+    requires long { store_size pages ≤ D.size disk.old }
+    ensures sent { OnOk result ((c : List ℕ) (records : List RecordParts) → D.content disk.old ≡ Some c → AreRecordsAt pages end from records c
+        → IsSomeAnd (D.content disk.new) (AreHome (images_in records) c)) }
+    ensures synced { OnOk result (IsSynced (D.content disk.new) (D.may_leave disk.new)) }
+    ensures homes { (c : List ℕ) (records : List RecordParts) → D.content disk.old ≡ Some c → AreRecordsAt pages end from records c
+        → ChangesHomes D.content D.may_leave D.moment D.left_since (is_named records) disk.old disk.new }
+    ensures told { SameTold (D.content disk.old) (D.content disk.new) }
+    ensures size { D.size disk.new ≡ D.size disk.old }
+    ensures cause { HasCause (D.fault_count disk.old) (D.fault_count disk.new) result }
+{
+    send_records(disk, from, end, pages)?;
+    disk.sync()
+}
+
 impl Journal {
     /// Writes the images of the counted records to the homes of their pages, in their order, and
     /// syncs: the first two steps of a checkpoint (FORMATS.md, "Journal"). After `Failed` the homes
@@ -137,7 +155,6 @@ impl Journal {
         ensures size { D.size disk.new ≡ D.size disk.old }
     {
         let start = start_of(self.area);
-        send_records(disk, start + 8, start + self.end, self.pages)?;
-        disk.sync()
+        send_and_sync(disk, start + 8, start + self.end, self.pages)
     }
 }
