@@ -101,6 +101,15 @@ image_bytes p = to_be_bytes w32 p.number ++ page_bytes p
 abbrev pub record_bytes : RecordParts → List ℕ
 record_bytes r = kind_byte r.kind ∷ (to_be_bytes w32 (length r.images) ++ flat_map image_bytes r.images)
 
+-- a record with a closed gate behind it
+abbrev pub spelled_with_gate : RecordParts → List ℕ
+spelled_with_gate r = record_bytes r ++ 0 ∷ []
+
+-- a page's spelling has 1,024 bytes, which are read as that page
+pub record ReadsBack (p : PageParts) : Type 0 where
+  pub long : length (page_bytes p) ≡ 1024
+  pub again : page_at (page_bytes p) ≡ Ok p
+
 -- a record with one page more
 abbrev pub with_image : PageParts → RecordParts → RecordParts
 with_image image r = record r { images = r.images ++ image ∷ [] }

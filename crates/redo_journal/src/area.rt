@@ -1,9 +1,9 @@
 //! The bytes of an area.
-ghost use Rattle.std.specs.Prelude.{◌≡◌, ◌≤◌, ◌+◌, ◌*◌, IfOk, IfSome, IsErrOf, length};
+ghost use Rattle.std.specs.Prelude.{◌≡◌, ◌≤◌, ◌+◌, ◌*◌, ℕ, Err, IfOk, IfSome, IsErrOf, length};
 ghost use Rattle.disk_trait.specs.Causes.{Rose};
 ghost use Rattle.disk_trait.specs.Disk.{SameImages, LeavesOnly};
 ghost use Rattle.redo_journal.specs.Area.{area_of, area_size, area_start};
-ghost use Rattle.redo_journal.specs.declared.faults.AreaFault.TheVariants.{DiskFault, Memory};
+ghost use Rattle.redo_journal.specs.declared.faults.AreaFault.TheVariants.{BadRecord, DiskFault};
 
 use crate::faults::AreaFault;
 use disk_trait::Disk;
@@ -28,6 +28,7 @@ pub(crate) fn read_area<D: Disk>(
     requires long { area_start area + area_size ≤ D.size disk.old }
     ensures whole { IfOk result (λ bytes. length bytes.items ≡ area_size) }
     ensures read { IfOk result (λ bytes. IfSome (D.content disk.old) (λ c. bytes.items ≡ area_of area c)) }
+    ensures unread { (at : ℕ) → result ≡ Err (BadRecord at) → ⊥ }
     ensures fault { IsErrOf result DiskFault → Rose (D.fault_count disk.old) (D.fault_count disk.new) }
     ensures content { D.content disk.new ≡ D.content disk.old }
     ensures images { SameImages (D.may_leave disk.old) (D.may_leave disk.new) }

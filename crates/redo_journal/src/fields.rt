@@ -102,7 +102,6 @@ fn page_of(bytes: &[u8], place: u64) -> Result<Page, AreaFault>
 }
 
 /// A page with its number, which is at least `low`.
-#[tactic(auto, unfolding(crate::specs::Record::image_at))]
 pub(crate) fn image_of(bytes: &[u8], pages: u32, place: u64, low: u32) -> Result<Page, AreaFault>
     requires long { 1028 ≤ length bytes.now }
     requires small { place < 2 ^ 40 }

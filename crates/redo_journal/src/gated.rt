@@ -1,10 +1,17 @@
-//! Bytes behind a gate.
-ghost use Rattle.std.specs.Prelude.{◌≡◌, ◌≤◌, ◌<◌, ◌+◌, ◌^◌, List, ℕ, Some, length, OnOk, option_map};
+//! Bytes behind a gate, and a record behind it.
+ghost use Rattle.std.specs.Prelude.{◌≡◌, ◌≤◌, ◌<◌, ◌+◌, ◌^◌, List, ℕ, Some, length, OnOk, option_map, ◌*◌};
+ghost use Rattle.std.specs.List.{AllByRecursion};
 ghost use Rattle.disk_trait.specs.Causes.{HasCause, SameTold};
 ghost use Rattle.disk_trait.specs.Disk.{Only, IsSynced, LeavesOnly};
+ghost use Rattle.page_image.specs.Pages.{PageParts};
 ghost use Rattle.redo_journal.specs.Gated.{TornBehind, behind_open};
+ghost use Rattle.redo_journal.specs.Record.{ReadsBack, size_of, spelled_with_gate};
 
+use crate::fields::{FRAME_SIZE, IMAGE_SIZE};
+use crate::kind::Kind;
+use crate::spelling::put_record;
 use disk_trait::{Disk, Failed};
+use page_image::Page;
 
 /// Writes the bytes behind a closed gate, and opens it once they are safe.
 pub(crate) fn write_behind<D: Disk>(disk: &mut D, gate: u64, bytes: &[u8]) -> Result<(), Failed>
@@ -21,4 +28,30 @@ pub(crate) fn write_behind<D: Disk>(disk: &mut D, gate: u64, bytes: &[u8]) -> Re
     disk.sync()?;
     disk.write_at(gate, &[1])?;
     disk.sync()
+}
+
+/// Writes a record behind a closed gate, which is opened once the record is safe.
+pub(crate) fn write_record<D: Disk>(
+    disk: &mut D,
+    gate: u64,
+    kind: Kind,
+    images: &[Page],
+    buffer: &mut [u8],
+) -> Result<(), Failed>
+    requires within { gate + 1 + (6 + 1028 * length images.now) ≤ D.size disk.old }
+    requires small { gate < 2 ^ 32 }
+    requires few { length images.now ≤ 64 }
+    requires room { length buffer.old ≡ 65798 }
+    ensures any_moment { (c : List ℕ) → D.content disk.old ≡ Some c → Only c (D.may_leave disk.old)
+        → LeavesOnly D.moment D.left_since disk.old disk.new (TornBehind gate (spelled_with_gate (record { kind = kind; images = images.now })) c) }
+    ensures done { OnOk result (D.content disk.new ≡ option_map (behind_open gate (spelled_with_gate (record { kind = kind; images = images.now }))) (D.content disk.old)) }
+    ensures synced { OnOk result (IsSynced (D.content disk.new) (D.may_leave disk.new)) }
+    ensures again { AllByRecursion ReadsBack images.now }
+    ensures room { length buffer.new ≡ 65798 }
+    ensures size { D.size disk.new ≡ D.size disk.old }
+    ensures cause { HasCause (D.fault_count disk.old) (D.fault_count disk.new) result }
+{
+    put_record(buffer, kind, images);
+    let size = FRAME_SIZE + IMAGE_SIZE * images.len();
+    write_behind(disk, gate, buffer.split_at(size).0)
 }

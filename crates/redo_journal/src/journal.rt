@@ -13,11 +13,10 @@ ghost use Rattle.redo_journal.specs.declared.kind.Kind.TheVariants.{Commit, Swee
 use crate::area::{AREA_SIZE, read_area, start_of};
 use crate::faults::{AppendFault, AreaFault};
 use crate::fields::{FRAME_SIZE, IMAGE_SIZE, MOST_IMAGES};
-use crate::gated::write_behind;
+use crate::gated::write_record;
 use crate::kind::Kind;
 use crate::replay::Replay;
 use crate::scan::{counted, scan};
-use crate::spelling::put_record;
 use disk_trait::Disk;
 use page_image::Page;
 use std::alloc::{AllocError, Global};
@@ -212,9 +211,8 @@ impl Journal {
         let Some(kind) = self.kind else {
             unreachable!();
         };
-        put_record(&mut self.buffer, kind, &self.images);
         let gate = start_of(self.area) + self.end;
-        write_behind(disk, gate, self.buffer.split_at(need as usize).0)?;
+        write_record(disk, gate, kind, &self.images, &mut self.buffer)?;
         self.commits += counted(kind);
         self.end += need;
         self.kind = None;

@@ -57,7 +57,6 @@ struct Head {
 }
 
 /// Reads a record, which stands behind so many commits.
-#[tactic(auto, unfolding(crate::specs::Record::record_at))]
 fn record_of(
     bytes: &[u8],
     pages: u32,

@@ -1,10 +1,8 @@
 //! Writing a record, from its kind to its next gate.
 ghost use Rattle.std.specs.Prelude.{◌≡◌, ◌≤◌, ◌+◌, ◌*◌, ◌++◌, ◌∷◌, [], Ok, length, take};
 ghost use Rattle.std.specs.List.{AllByRecursion};
-ghost use Rattle.page_image.specs.Fields.{page_at};
-ghost use Rattle.page_image.specs.Spelling.{page_bytes};
 ghost use Rattle.std.specs.Int.{w32, to_be_bytes};
-ghost use Rattle.redo_journal.specs.Record.{image_bytes, kind_byte, record_bytes};
+ghost use Rattle.redo_journal.specs.Record.{ReadsBack, image_bytes, kind_byte, spelled_with_gate};
 
 use crate::fields::{IMAGE_SIZE, PAGE_SIZE};
 use crate::kind::Kind;
@@ -24,7 +22,7 @@ fn put_image(out: &mut [u8], at: usize, image: &Page)
     requires { at + 1028 ≤ length out.old }
     ensures front { take (at + 1028) out.new ≡ take at out.old ++ image_bytes image.now }
     ensures long { length out.new ≡ length out.old }
-    ensures again { page_at (page_bytes image.now) ≡ Ok image.now }
+    ensures again { ReadsBack image.now }
 {
     let mut bytes = [0; PAGE_SIZE];
     image.encode(&mut bytes);
@@ -50,9 +48,9 @@ fn put_head(out: &mut [u8], kind: Kind, count: u32)
 pub(crate) fn put_record(out: &mut [u8], kind: Kind, images: &[Page])
     requires long { 6 + 1028 * length images.now ≤ length out.old }
     requires few { length images.now ≤ 64 }
-    ensures front { take (6 + 1028 * length images.now) out.new ≡ record_bytes (record { kind = kind; images = images.now }) ++ 0 ∷ [] }
+    ensures front { take (6 + 1028 * length images.now) out.new ≡ spelled_with_gate (record { kind = kind; images = images.now }) }
     ensures long { length out.new ≡ length out.old }
-    ensures again { AllByRecursion (λ p. page_at (page_bytes p) ≡ Ok p) images.now }
+    ensures again { AllByRecursion ReadsBack images.now }
 {
     put_head(out, kind, images.len() as u32);
     for i in 0..images.len() {

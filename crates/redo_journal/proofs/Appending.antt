@@ -1,0 +1,109 @@
+-- A record behind the last one: what a crash leaves meanwhile, and what the area holds in the end.
+use Rattle.std.proofs.Common.{◌≡◌, ◌⊎◌, inl, inr, ℕ, ◌+◌, ◌-◌, ◌*◌, ◌≤◌, ◌<◌, ◌^◌, List, [], ◌∷◌, ◌++◌, length, take, drop, refl, sym, ◌∙◌, ap, subst, arith, length-append}
+use Rattle.std.specs.Prelude.{Option, Some, IfSome, IsSomeAnd}
+use Rattle.std.specs.List.{AllByRecursion}
+use Rattle.std.proofs.lemmas.Option.{same_Some}
+use Rattle.std.proofs.lemmas.List.{take-take, drop-drop}
+use Rattle.disk_trait.specs.Disk.{written, Torn}
+use Rattle.disk_trait.specs.NoteLaws.{length-written, torn_written}
+use Rattle.redo_journal.specs.Area.{IsStaged, area_start, area_size, most_commits}
+use Rattle.redo_journal.specs.Gated.{TornBehind, behind_open}
+use Rattle.redo_journal.specs.Journals.{JournalParts, IsJournal, HoldsFor, IsAppendedOrNot, IsAppended, appended, need_of, left_of}
+use Rattle.redo_journal.specs.Record.{RecordParts, IsRecordOf, ReadsBack, grammar, size_of, record_bytes, spelled_with_gate}
+use Rattle.redo_journal.specs.Walk.{weights}
+use Rattle.redo_journal.specs.declared.kind.Kind.TheVariants.{Commit, Sweep}
+use Rattle.redo_journal.proofs.Spelled.{spelled_record, length-record}
+use Rattle.redo_journal.proofs.FileLaws.{at_any_moment, in_the_end, taken-push, weights-push}
+use Rattle.redo_journal.proofs.GrammarLaws.{grammar_is_local, grammar-size, grammar-weight}
+
+pub torn_wider : (s m at n : ℕ) (old new : List ℕ) → s ≤ at → at + n ≤ s + m → Torn at n old new → Torn s m old new
+torn_wider s m at n old new le fits torn =
+    let k = s + m - (at + n) in
+    let whole : at + n + k ≡ s + m = omega (arith, fits) in
+    record {
+      same_length = torn.same_length;
+      before = sym (take-take s at new le) ∙ ap (λ (l : List ℕ). take s l) torn.before ∙ take-take s at old le;
+      after =
+          ap (λ (i : ℕ). drop i new) (sym whole)
+          ∙ sym (drop-drop k (at + n) new)
+          ∙ ap (λ (l : List ℕ). drop k l) torn.after
+          ∙ drop-drop k (at + n) old
+          ∙ ap (λ (i : ℕ). drop i old) whole;
+    }
+
+pub torn_twice : (s m : ℕ) (a b c : List ℕ) → Torn s m a b → Torn s m b c → Torn s m a c
+torn_twice s m a b c one two = record {
+  same_length = two.same_length ∙ one.same_length;
+  before = two.before ∙ one.before;
+  after = two.after ∙ one.after;
+}
+
+pub as_before : (j : JournalParts) (rs : List RecordParts) (new : RecordParts) (file : List ℕ) → HoldsFor j rs file → IsAppendedOrNot j rs new file file
+as_before j rs new file h = record { elsewhere = record { same_length = refl; before = refl; after = refl }; area = inl h.holds }
+
+-- these bytes are the staged record with its gate, and there is room for them
+pub record IsReady (j : JournalParts) (new : RecordParts) (bytes : List ℕ) : Type 0 where
+  pub staged : IsStaged (grammar j.pages) (j.base + j.commits) new bytes
+  pub room : j.end + 1 + length bytes ≤ area_size
+
+pub ready : (j : JournalParts) (new r : RecordParts) (need left : ℕ) → IsJournal j → j.pages ≤ 2 ^ 32 → j.staged ≡ Some new → j.staged ≡ Some r
+    → IsSomeAnd j.staged (λ q. q.kind ≡ Sweep → length q.images ≡ 1) → IfSome j.staged (λ q. q.kind ≡ Commit → j.base + j.commits < most_commits)
+    → AllByRecursion ReadsBack r.images → need ≡ need_of j.staged → left ≡ left_of j → need ≤ left → IsReady j new (spelled_with_gate r)
+ready j new r need left keeps small e f one unspent back need_is left_is fits =
+    let same : r ≡ new = same_Some r new (sym f ∙ e) in
+    let is : IsRecordOf j.pages new = subst (λ (s : Option RecordParts). IfSome s (IsRecordOf j.pages)) e keeps.staged in
+    let single : new.kind ≡ Sweep → length new.images ≡ 1 = subst (λ (s : Option RecordParts). IsSomeAnd s (λ q. q.kind ≡ Sweep → length q.images ≡ 1)) e one in
+    let below : new.kind ≡ Commit → j.base + j.commits < most_commits = subst (λ (s : Option RecordParts). IfSome s (λ q. q.kind ≡ Commit → j.base + j.commits < most_commits)) e unspent in
+    let back' : AllByRecursion ReadsBack new.images = subst (λ (q : RecordParts). AllByRecursion ReadsBack q.images) same back in
+    let needs : need ≡ size_of new = need_is ∙ ap need_of e in
+    let here : IsReady j new (spelled_with_gate new) = record {
+      staged = spelled_record j.pages new is single back' small (j.base + j.commits) (spelled_with_gate new) below refl;
+      room = room_for j.end need left (length (spelled_with_gate new)) (length new.images) (length (record_bytes new)) keeps.within needs left_is fits (length-append (record_bytes new) (0 ∷ [])) (length-record new back');
+    } in
+    subst (λ (q : RecordParts). IsReady j new (spelled_with_gate q)) (sym same) here
+  where
+    room_for : (end need left size count body : ℕ) → end < 262144 → need ≡ 6 + 1028 * count → left ≡ 262144 - (end + 1) → need ≤ left → size ≡ body + 1 → body ≡ 5 + 1028 * count → end + 1 + size ≤ 262144
+    room_for end need left size count body within needs left_is fits size_is body_is = omega (arith, within, needs, left_is, fits, size_is, body_is)
+
+module _ (j : JournalParts) (rs : List RecordParts) (new : RecordParts) (file : List ℕ) (h : HoldsFor j rs file) (bytes : List ℕ) (staged : IsStaged (grammar j.pages) (j.base + j.commits) new bytes) (room : j.end + 1 + length bytes ≤ area_size) where
+  abbrev gate : ℕ
+  gate = area_start j.area + j.end
+
+  behind : IsStaged (grammar j.pages) (j.base + weights (grammar j.pages) rs) new bytes
+  behind = subst (λ (d : ℕ). IsStaged (grammar j.pages) (j.base + d) new bytes) h.commits staged
+
+  long : area_start j.area + area_size ≤ length file
+  long = h.holds.long
+
+  fits : gate + 1 + length bytes ≤ length file
+  fits = omega (arith, room, long)
+
+  -- all of it stays within the area
+  inside : (f : List ℕ) → TornBehind gate bytes file f → Torn (area_start j.area) area_size file f
+  inside f (inl torn) = torn_wider (area_start j.area) area_size (gate + 1) (length bytes) file f (omega arith) (omega (arith, room)) torn
+  inside f (inr torn) =
+      torn_twice (area_start j.area) area_size file (written (gate + 1) bytes file) f
+      (torn_wider (area_start j.area) area_size (gate + 1) (length bytes) file (written (gate + 1) bytes file) (omega arith) (omega (arith, room)) (torn_written (gate + 1) bytes file fits))
+      (torn_wider (area_start j.area) area_size gate 1 (written (gate + 1) bytes file) f (omega arith) (omega (arith, room)) torn)
+
+  pub meanwhile : (f : List ℕ) → TornBehind gate bytes file f → IsAppendedOrNot j rs new file f
+  meanwhile f torn = record {
+    elsewhere = inside f torn;
+    area = at_any_moment (grammar j.pages) (grammar_is_local j.pages) j.area j.base rs file h.holds j.end h.end new bytes behind gate refl room f torn;
+  }
+
+  ended : Torn gate 1 (written (gate + 1) bytes file) (behind_open gate bytes file)
+  ended = torn_written gate (1 ∷ []) (written (gate + 1) bytes file) (omega (arith, length-written (gate + 1) bytes file fits, fits))
+
+  size_is : size_of new ≡ (grammar j.pages).size new + 1
+  size_is = omega (arith, grammar-size j.pages new)
+
+  pub afterwards : IsAppended (appended new j) rs new file (behind_open gate bytes file)
+  afterwards = record {
+    elsewhere = inside (behind_open gate bytes file) (inr ended);
+    area = record {
+      holds = in_the_end (grammar j.pages) (grammar_is_local j.pages) j.area j.base rs file h.holds j.end h.end new bytes behind gate refl room (behind_open gate bytes file) refl;
+      end = omega (arith, h.end, size_is, taken-push (grammar j.pages) rs new);
+      commits = omega (arith, h.commits, grammar-weight j.pages new, weights-push (grammar j.pages) rs new);
+    };
+  }

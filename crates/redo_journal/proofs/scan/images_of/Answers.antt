@@ -1,0 +1,62 @@
+use Rattle.std.proofs.Common.{◌≡◌, ◌+◌, ◌-◌, ◌*◌, ◌++◌, ◌∷◌, [], ℕ, List, Result, Ok, length, drop, refl, sym, ◌∙◌, ap, subst, arith}
+use Rattle.std.proofs.lemmas.Result.{err_from_is_err_and}
+use Rattle.page_image.specs.Pages.{PageParts}
+use Rattle.redo_journal.specs.Judging.{IsFaultIn}
+use Rattle.redo_journal.specs.Walk.{with_front}
+use Rattle.redo_journal.specs.Record.{images_at}
+use Rattle.redo_journal.proofs.GrammarLaws.{images_length}
+use Rattle.redo_journal.proofs.ImageSteps.{images_more, images_fault, images_end}
+use Rattle.redo_journal.proofs.Laying.{laid_nothing, laid_more}
+use Rattle.redo_journal.proofs.WalkLaws.{with_front-nil}
+use Rattle.redo_journal.proofs.scan.images_of.Goals as goal
+
+pub loop-left-init : goal.loop-left-init
+loop-left-init c = record {
+  front = [];
+  value = with_front-nil (images_at c.args.pages c.args.place 0 c.args.count c.args.bytes.now);
+  long = c.requires.long;
+  few = c.requires.few;
+  at_is = refl;
+  laid = laid_nothing c.args.latest.now.items;
+  kept = c.requires.kept;
+}
+
+pub loop-left-preserved : goal.loop-left-preserved
+loop-left-preserved c =
+    let l = c.loop-left in
+    let i = l.invariant in
+    let image : PageParts = c.in_ok-image.image in
+    let low_is : c.number-low.result + 1 ≡ image.number + 1 = ap (λ (n : ℕ). n + 1) c.number-low.ensures.value in
+    record {
+      front = i.front ++ image ∷ [];
+      value =
+          ap (λ (x : List ℕ). with_front (i.front ++ image ∷ []) (images_at c.args.pages (l.at + 1028) (c.number-low.result + 1) (l.left - 1) x)) c.split_at.ensures.back
+          ∙ ap (λ (low : ℕ). with_front (i.front ++ image ∷ []) (images_at c.args.pages (l.at + 1028) low (l.left - 1) (drop 1028 l.rest.now))) low_is
+          ∙ images_more i.front c.args.pages l.at l.low l.left l.rest.now image c.loop-left-test.true c.in_ok-image.ensures.value
+          ∙ i.value;
+      long = omega (arith, i.long, c.split_at.ensures.back_len, c.loop-left-test.true);
+      few = omega (arith, i.few);
+      at_is = omega (arith, i.at_is, c.loop-left-test.true);
+      laid = laid_more i.front (image ∷ []) c.args.latest.now.items l.latest.items c.lay.new.images.items i.laid c.in-Ok.ensures.laid;
+      kept = c.in-Ok.ensures.kept;
+    }
+
+pub returns-in_err-image : goal.returns-in_err-image
+returns-in_err-image c =
+    let l = c.loop-left in
+    let i = l.invariant in
+    let fault = c.in_err-image.field-0.0 in
+    let p = err_from_is_err_and c.from_residual.result c.from_residual.ensures.1 in
+    let here = subst (λ (read : Result (List PageParts) ℕ). IsFaultIn read fault) i.value
+    (images_fault i.front c.args.pages l.at l.low l.left l.rest.now fault c.loop-left-test.true c.in_err-image.ensures.value) in
+    rw (p.1, p.2) (record { read = here })
+
+pub returns : goal.returns
+returns c =
+    let l = c.loop-left in
+    let i = l.invariant in
+    let read : images_at c.args.pages c.args.place 0 c.args.count c.args.bytes.now ≡ Ok i.front =
+    sym i.value ∙ images_end i.front c.args.pages l.at l.low l.left l.rest.now (omega (arith, c.loop-left-test.false)) in
+    record {
+      read = (i.front, read, images_length c.args.pages c.args.place 0 c.args.count c.args.bytes.now i.front read, i.laid, i.kept);
+    }

@@ -1,0 +1,109 @@
+use Rattle.std.proofs.Common.{◌≡◌, ℕ, List, [], ◌∷◌, ◌++◌, ◌+◌, ◌-◌, ◌*◌, ◌<◌, ◌≤◌, length, get_or, drop, Result, Ok, Err, refl, sym, ◌∙◌, ap, subst, arith, length-drop}
+use Rattle.std.proofs.lemmas.List.{flat_map_more}
+use Rattle.std.proofs.lemmas.List.Sums.{sum_by_push}
+use Rattle.std.proofs.lemmas.Result.{err_from_is_err_and}
+use Rattle.page_image.specs.Pages.{PageParts}
+use Rattle.redo_journal.specs.Judging.{IsFaultIn}
+use Rattle.redo_journal.specs.Walk.{walk, with_front}
+use Rattle.redo_journal.specs.Record.{RecordParts, record_at, grammar, commits_of, commits_in}
+use Rattle.redo_journal.specs.Replays.{AreLatest, IsLaidOver, images_in}
+use Rattle.redo_journal.specs.declared.kind.Kind.{Kind}
+use Rattle.redo_journal.specs.declared.kind.Kind.TheVariants.{Commit, Sweep}
+use Rattle.redo_journal.proofs.FileLaws.{taken-push}
+use Rattle.redo_journal.proofs.GrammarLaws.{grammar-at, grammar-size, grammar-weight}
+use Rattle.redo_journal.proofs.Laying.{laid_nothing, laid_more}
+use Rattle.redo_journal.proofs.ScanSteps.{scan_more, scan_fault, scan_closed, area_walk, area_fault, walk_drop}
+use Rattle.redo_journal.proofs.WalkLaws.{with_front-nil}
+use Rattle.redo_journal.proofs.scan.scan.Goals as goal
+
+at_most_one : (kind : Kind) → commits_of kind ≤ 1
+at_most_one Commit = omega arith
+at_most_one Sweep = omega arith
+
+room_for : (base commits more : ℕ) (kind : Kind) → base + commits ≤ 281474976710656 → more ≡ commits_of kind → (kind ≡ Commit → base + commits < 281474976710656) → base + (commits + more) ≤ 281474976710656
+room_for base commits more Commit le is h = omega (arith, is, h refl)
+room_for base commits more Sweep le is h = omega (arith, is)
+
+plain : (n : ℕ) → n + 0 ≡ n
+plain n = omega arith
+
+none_latest : (pages : ℕ) (images : List PageParts) → images ≡ [] → AreLatest pages images
+none_latest pages images is = subst (λ (xs : List PageParts). AreLatest pages xs) (sym is) (record { ascending = λ k lt. absurd (omega (arith, lt)); below = tt })
+
+pub loop-end-init : goal.loop-end-init
+loop-end-init c =
+    let g = grammar c.args.pages in
+    record {
+      front = [];
+      value =
+          with_front-nil (walk g (c.args.start + 8) (c.base_of-base.result + 0) 0 (drop 8 c.args.bytes.now))
+          ∙ ap (λ (d : ℕ). walk g (c.args.start + 8) d 0 (drop 8 c.args.bytes.now)) (plain c.base_of-base.result)
+          ∙ sym (walk_drop g c.args.start c.base_of-base.result 8 c.args.bytes.now (omega (arith, c.requires.whole)));
+      end_is = refl;
+      commits_are = refl;
+      within = omega arith;
+      few = omega arith;
+      unspent = omega (arith, c.if-base-gt-MOST_COMMITS.false);
+      laid = subst (λ (xs : List PageParts). IsLaidOver [] [] xs) (sym c.new-images.ensures.items) (laid_nothing []);
+      kept = none_latest c.args.pages c.new-images.result.items c.new-images.ensures.items;
+    }
+
+pub loop-end-preserved : goal.loop-end-preserved
+loop-end-preserved c =
+    let g = grammar c.args.pages in
+    let l = c.loop-end in
+    let i = l.invariant in
+    let base = c.base_of-base.result in
+    let head = c.in_ok-head.head in
+    let read = c.in_ok-head.ensures.read in
+    let r : RecordParts = record { kind = head.kind; images = read.0 } in
+    let inside : l.end < length c.args.bytes.now = omega (arith, i.within, c.requires.whole) in
+    let here : g.at (c.args.start + l.end + 1) (base + l.commits) (drop (l.end + 1) c.args.bytes.now) ≡ Ok r =
+    grammar-at c.args.pages (c.args.start + l.end + 1) (base + l.commits) (drop (l.end + 1) c.args.bytes.now)
+    ∙ ap (λ (x : List ℕ). record_at c.args.pages (c.args.start + l.end + 1) (base + l.commits) x) (sym c.split_at.ensures.back) ∙ read.1 in
+    let size_is : 6 + 1028 * head.count ≡ g.size r + 1 = omega (arith, grammar-size c.args.pages r, read.2) in
+    let weight_is : c.counted-commits.result ≡ g.weight r = c.counted-commits.ensures ∙ sym (grammar-weight c.args.pages r) in
+    let room : l.end + (6 + 1028 * head.count) < 262144 = omega (arith, c.in_ok-head.ensures.room, ap length c.split_at.ensures.back, length-drop (l.end + 1) c.args.bytes.now, c.requires.whole) in
+    record {
+      front = i.front ++ r ∷ [];
+      value = scan_more g c.args.start base l.end l.commits c.args.bytes.now i.front inside r (6 + 1028 * head.count) c.counted-commits.result c.loop-end-test.true here size_is weight_is (omega (arith, room, c.requires.whole)) ∙ i.value;
+      end_is = omega (arith, i.end_is, taken-push g i.front r, size_is);
+      commits_are = omega (arith, i.commits_are, sum_by_push (λ (q : RecordParts). commits_of q.kind) i.front r, c.counted-commits.ensures);
+      within = room;
+      few = omega (arith, i.few, c.counted-commits.ensures, at_most_one head.kind);
+      unspent = room_for base l.commits c.counted-commits.result head.kind i.unspent c.counted-commits.ensures c.in_ok-head.ensures.unspent;
+      laid =
+          subst (λ (xs : List PageParts). IsLaidOver xs [] c.record_of.new.latest.items) (flat_map_more (λ (q : RecordParts). q.images) [] i.front r)
+          (laid_more (images_in i.front) read.0 [] l.images.items c.record_of.new.latest.items i.laid read.3);
+      kept = read.4;
+    }
+
+pub returns-in_err-head-clause-read : goal.returns-in_err-head-clause-read
+returns-in_err-head-clause-read c =
+    let g = grammar c.args.pages in
+    let l = c.loop-end in
+    let i = l.invariant in
+    let base = c.base_of-base.result in
+    let fault = c.in_err-head.field-0.0 in
+    let at_is : g.at (c.args.start + l.end + 1) (base + l.commits) (drop (l.end + 1) c.args.bytes.now) ≡ record_at c.args.pages (c.args.start + l.end + 1) (base + l.commits) c.split_at.result.1.now =
+    grammar-at c.args.pages (c.args.start + l.end + 1) (base + l.commits) (drop (l.end + 1) c.args.bytes.now)
+    ∙ ap (λ (x : List ℕ). record_at c.args.pages (c.args.start + l.end + 1) (base + l.commits) x) (sym c.split_at.ensures.back) in
+    let here = subst (λ (read : Result RecordParts ℕ). IsFaultIn read fault) (sym at_is) c.in_err-head.ensures.read in
+    let walked = subst (λ (read : Result (List RecordParts) ℕ). IsFaultIn read fault) i.value
+    (scan_fault g c.args.start base l.end l.commits c.args.bytes.now i.front fault (omega (arith, i.within, c.requires.whole)) c.loop-end-test.true here) in
+    let p = err_from_is_err_and c.from_residual.result c.from_residual.ensures.1 in
+    rw (p.1, p.2) (area_fault g c.args.start base c.args.bytes.now fault c.base_of-base.ensures c.if-base-gt-MOST_COMMITS.false walked)
+
+pub returns-clause-read : goal.returns-clause-read
+returns-clause-read c =
+    let g = grammar c.args.pages in
+    let l = c.loop-end in
+    let i = l.invariant in
+    let base = c.base_of-base.result in (
+      i.front,
+      area_walk g c.args.start base c.args.bytes.now (Ok i.front) c.base_of-base.ensures c.if-base-gt-MOST_COMMITS.false
+          (sym i.value ∙ scan_closed g c.args.start base l.end l.commits c.args.bytes.now i.front (omega (arith, i.within, c.requires.whole)) c.loop-end-test.false),
+      i.end_is,
+      i.commits_are,
+      i.laid,
+    )
