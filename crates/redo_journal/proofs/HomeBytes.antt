@@ -1,29 +1,24 @@
 -- The bytes of a file as homes change.
 use Rattle.std.proofs.Common.{◌≡◌, ◌⊎◌, inl, inr, ⊎_elim, ℕ, ◌+◌, ◌-◌, ◌*◌, ◌<◌, ◌≤◌, ◌==◌, Bool, true, false, List, [], ◌∷◌, ◌++◌, length, get_or, take, drop, refl, sym, ◌∙◌, ap, subst, arith, append_assoc, length-drop, min}
 use Rattle.std.proofs.lemmas.Bool.{cases_lt}
-use Rattle.std.proofs.lemmas.List.{length-take, length-take-le, get_or-take, get_or-drop, take_at, drop_at, ext_get_or}
+use Rattle.std.proofs.lemmas.List.{length-take, get_or-take, get_or-drop, take_at, ext_get_or}
 use Rattle.disk_trait.specs.Disk.{piece, written, Torn}
 use Rattle.redo_journal.specs.Homes.{DiffersInHomes, IsInHome, home_start, home_of}
+use Rattle.redo_journal.proofs.FileLaws.{length-piece, get_or-piece, drop-written}
 
 -- ---- pieces
-
-pub length-piece : (at n : ℕ) (x : List ℕ) → at + n ≤ length x → length (piece at n x) ≡ n
-length-piece at n x fits = length-take-le n (drop at x) (omega (arith, fits, length-drop at x))
 
 length-pieces : (at n : ℕ) (x y : List ℕ) → length x ≡ length y → length (piece at n x) ≡ length (piece at n y)
 length-pieces at n x y long =
     let tails : length (drop at x) ≡ length (drop at y) = length-drop at x ∙ ap (λ m. m - at) long ∙ sym (length-drop at y) in
     length-take n (drop at x) ∙ ap (λ m. min n m) tails ∙ sym (length-take n (drop at y))
 
-byte-piece : (at n i : ℕ) (x : List ℕ) → i < n → get_or (piece at n x) i 0 ≡ get_or x (at + i) 0
-byte-piece at n i x lt = get_or-take n (drop at x) i 0 lt ∙ get_or-drop at x i 0
-
 -- pieces of the same bytes
 same_pieces : (at n : ℕ) (x y : List ℕ) → length x ≡ length y → ((i : ℕ) → at ≤ i → i < at + n → get_or x i 0 ≡ get_or y i 0) → piece at n x ≡ piece at n y
 same_pieces at n x y long each =
     ext_get_or 0 (piece at n x) (piece at n y) (length-pieces at n x y long) (λ i lt.
     let within : i < n = omega (arith, lt, length-take n (drop at x)) in
-    byte-piece at n i x within ∙ each (at + i) (omega arith) (omega (arith, within)) ∙ sym (byte-piece at n i y within))
+    get_or-piece at n i x within ∙ each (at + i) (omega arith) (omega (arith, within)) ∙ sym (get_or-piece at n i y within))
 
 -- a piece of a piece
 pub piece-piece : (at n start size : ℕ) (x : List ℕ) → at + n ≤ size → start + size ≤ length x → piece at n (piece start size x) ≡ piece (start + at) n x
@@ -33,8 +28,8 @@ piece-piece at n start size x fits long =
     let outer : length (piece (start + at) n x) ≡ n = length-piece (start + at) n x (omega (arith, long, fits)) in
     ext_get_or 0 (piece at n (piece start size x)) (piece (start + at) n x) (inner ∙ sym outer) (λ i lt.
     let within : i < n = omega (arith, lt, inner) in
-    byte-piece at n i (piece start size x) within ∙ byte-piece start size (at + i) x (omega (arith, within, fits))
-    ∙ ap (λ m. get_or x m 0) (omega arith) ∙ sym (byte-piece (start + at) n i x within))
+    get_or-piece at n i (piece start size x) within ∙ get_or-piece start size (at + i) x (omega (arith, within, fits))
+    ∙ ap (λ m. get_or x m 0) (omega arith) ∙ sym (get_or-piece (start + at) n i x within))
 
 -- ---- what a write leaves
 
@@ -64,10 +59,7 @@ torn_home named page old new is torn = record {
 pub home_written : (page : ℕ) (bytes file : List ℕ) → length bytes ≡ 1024 → home_start page + 1024 ≤ length file → home_of page (written (home_start page) bytes file) ≡ bytes
 home_written page bytes file long fits =
     let start = home_start page in
-    let behind : drop start (written start bytes file) ≡ bytes ++ drop (start + length bytes) file =
-    ap (λ (l : List ℕ). drop start l) (append_assoc (take start file) bytes (drop (start + length bytes) file))
-    ∙ drop_at (take start file) (bytes ++ drop (start + length bytes) file) start (length-take-le start file (omega (arith, fits))) in
-    ap (λ (l : List ℕ). take 1024 l) behind ∙ take_at bytes (drop (start + length bytes) file) 1024 long
+    ap (λ (l : List ℕ). take 1024 l) (drop-written start bytes file (omega (arith, long, fits))) ∙ take_at bytes (drop (start + length bytes) file) 1024 long
 
 -- ---- files that differ in homes
 

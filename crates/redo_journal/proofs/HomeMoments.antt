@@ -4,6 +4,7 @@ use Rattle.std.specs.Prelude.{IsSomeAnd, IfSome, OnOk, Result, Ok, Err}
 use Rattle.disk_trait.specs.Disk.{Torn, TornContent, LeavesOnly, Only}
 use Rattle.redo_journal.specs.Homes.{DiffersInHomes, home_start}
 use Rattle.redo_journal.specs.Sending.{After, ChangesHomes}
+use Rattle.redo_journal.proofs.Moments.{weaker}
 use Rattle.redo_journal.proofs.HomeBytes.{torn_home, differs_not, differs_then, differs_more}
 
 pub some_and : (o : Option (List ℕ)) (P : List ℕ → Type 0) → IsSomeAnd o P → (c : List ℕ) × (o ≡ Some c) × P c
@@ -28,19 +29,11 @@ torn_some : (at n : ℕ) (old new : Option (List ℕ)) (c : List ℕ) → old �
 torn_some at n old new c is torn = subst (λ (o : Option (List ℕ)). TornContent at n o new) is torn
 
 module _ {D : Type 0} (content : D → Option (List ℕ)) (may_leave : D → List ℕ → Type 0) (moment : D → ℕ) (left_since : D → ℕ → List ℕ → Type 0) where
-  -- all that a crash since old leaves has P
-  leaves_more : (old new : D) (P Q : List ℕ → Type 0) → ((c : List ℕ) → P c → Q c) → LeavesOnly moment left_since old new P → LeavesOnly moment left_since old new Q
-  leaves_more old new P Q more so_far = record {
-    later = so_far.later;
-    each = λ c left. more c (so_far.each c left);
-    before = λ t c le left. ⊎_elim (λ past. inl past) (λ p. inr (more c p)) (so_far.before t c le left);
-  }
-
   -- a call that only looks
   pub looked : (named : ℕ → Bool) (old new : D) → content new ≡ content old → LeavesOnly moment left_since old new (may_leave old) → ChangesHomes content may_leave moment left_since named old new
   looked named old new same leaves = record {
     told = λ c is. and_some (content new) (DiffersInHomes named c) c (same ∙ is) (differs_not named c);
-    any_moment = leaves_more old new (may_leave old) (After (DiffersInHomes named) (may_leave old)) (λ c left. (c, left, differs_not named c)) leaves;
+    any_moment = weaker moment left_since old new (may_leave old) (After (DiffersInHomes named) (may_leave old)) (λ c left. (c, left, differs_not named c)) leaves;
   }
 
   -- a write over a home
@@ -48,19 +41,19 @@ module _ {D : Type 0} (content : D → Option (List ℕ)) (may_leave : D → Lis
       → LeavesOnly moment left_since old new (After (Torn (home_start page) 1024) (may_leave old)) → ChangesHomes content may_leave moment left_since named old new
   wrote named page old new is torn leaves = record {
     told = λ c told. some_more (content new) (Torn (home_start page) 1024 c) (DiffersInHomes named c) (λ d t. torn_home named page c d is t) (torn_some (home_start page) 1024 (content old) (content new) c told torn);
-    any_moment = leaves_more old new (After (Torn (home_start page) 1024) (may_leave old)) (After (DiffersInHomes named) (may_leave old)) (λ c left. (left.0, left.1, torn_home named page left.0 c is left.2)) leaves;
+    any_moment = weaker moment left_since old new (After (Torn (home_start page) 1024) (may_leave old)) (After (DiffersInHomes named) (may_leave old)) (λ c left. (left.0, left.1, torn_home named page left.0 c is left.2)) leaves;
   }
 
   pub changes_more : (named more : ℕ → Bool) (old new : D) → ((page : ℕ) → named page ≡ true → more page ≡ true) → ChangesHomes content may_leave moment left_since named old new → ChangesHomes content may_leave moment left_since more old new
   changes_more named more old new within change = record {
     told = λ c is. some_more (content new) (DiffersInHomes named c) (DiffersInHomes more c) (λ d. differs_more named more c d within) (change.told c is);
-    any_moment = leaves_more old new (After (DiffersInHomes named) (may_leave old)) (After (DiffersInHomes more) (may_leave old)) (λ c left. (left.0, left.1, differs_more named more left.0 c within left.2)) change.any_moment;
+    any_moment = weaker moment left_since old new (After (DiffersInHomes named) (may_leave old)) (After (DiffersInHomes more) (may_leave old)) (λ c left. (left.0, left.1, differs_more named more left.0 c within left.2)) change.any_moment;
   }
 
   -- where a crash left one content alone before
   pub from_only : (named : ℕ → Bool) (old new : D) (c : List ℕ) → Only c (may_leave old) → ChangesHomes content may_leave moment left_since named old new → LeavesOnly moment left_since old new (DiffersInHomes named c)
   from_only named old new c only change =
-      leaves_more old new (After (DiffersInHomes named) (may_leave old)) (DiffersInHomes named c) (λ e left. subst (λ (d : List ℕ). DiffersInHomes named d e) (only left.0 left.1) left.2) change.any_moment
+      weaker moment left_since old new (After (DiffersInHomes named) (may_leave old)) (DiffersInHomes named c) (λ e left. subst (λ (d : List ℕ). DiffersInHomes named d e) (only left.0 left.1) left.2) change.any_moment
 
   module _ (only_now : (d : D) (c : List ℕ) → left_since d (moment d) c → may_leave d c) where
     -- before the first call

@@ -1,40 +1,30 @@
 -- The records for which a journal stands, as they stand on the file.
 use Rattle.std.proofs.Common.{◌≡◌, ℕ, zero, suc, ◌+◌, ◌*◌, ◌<◌, ◌≤◌, Bool, true, false, ◌&&◌, ◌==◌, nat_lt, nat_le, List, [], ◌∷◌, length, take, drop, Result, Ok, Err, if◌then◌else◌, refl, sym, ◌∙◌, ap, subst, arith}
-use Rattle.std.specs.Prelude.{slice_index, Option, None, Some, IfSome, IsSomeAnd}
+use Rattle.std.specs.Prelude.{Option, None, Some, IfSome, IsSomeAnd}
 use Rattle.std.specs.Int.{w32, from_be_bytes}
 use Rattle.std.proofs.lemmas.Bool.{and_parts, ltb-true, eqb-true}
 use Rattle.std.proofs.lemmas.List.{drop-drop}
-use Rattle.std.proofs.lemmas.List.Sums.{sum_by-cons}
 use Rattle.disk_trait.specs.Causes.{SameTold}
 use Rattle.disk_trait.specs.Disk.{piece}
 use Rattle.page_image.specs.Pages.{PageParts}
 use Rattle.page_image.specs.Fields.{page_at}
-use Rattle.redo_journal.specs.Area.{Contents, Holds, read_area, from_base, area_of, area_start, area_size, first_gate, base_in, most_commits}
-use Rattle.redo_journal.specs.Homes.{DiffersInHomes, store_size}
-use Rattle.redo_journal.specs.Journals.{JournalParts, IsJournal, HoldsFor, IsOn}
-use Rattle.redo_journal.specs.Record.{RecordParts, image_at, images_at, kind_at, count_at, is_count, record_at, grammar, size_of}
+use Rattle.redo_journal.specs.Area.{read_area, area_of, area_start, area_size, first_gate}
+use Rattle.redo_journal.specs.Homes.{DiffersInHomes}
+use Rattle.redo_journal.specs.Journals.{JournalParts, HoldsFor, IsOn}
+use Rattle.redo_journal.specs.Record.{RecordParts, image_at, images_at, is_count, record_at, grammar, size_of}
 use Rattle.redo_journal.specs.Results.{◌>>=◌, from_place}
 use Rattle.redo_journal.specs.Sending.{IsImageAt, AreImagesAt, AreRecordsAt, number_at}
-use Rattle.redo_journal.specs.Walk.{Grammar, walk, then_rest, with_front, taken}
-use Rattle.redo_journal.specs.declared.kind.Kind.{Kind}
+use Rattle.redo_journal.specs.Walk.{Grammar, walk, then_rest, taken}
+use Rattle.redo_journal.proofs.AreaLaws.{parts}
+use Rattle.redo_journal.proofs.FileLaws.{length-piece}
+use Rattle.redo_journal.proofs.GrammarLaws.{unok, bind_ok, guard_ok, sized, grammar_is_local, grammar-at, grammar-size}
 use Rattle.redo_journal.proofs.HomeBytes.{piece-piece, same_front}
 use Rattle.redo_journal.proofs.HomeRecords.{up_to_end}
+use Rattle.redo_journal.proofs.ScanSteps.{walk_drop}
+use Rattle.redo_journal.proofs.WalkLaws.{then_ok, taken-cons}
 
 abbrev ok : {A : Type 0} → A → Result A ℕ
 ok x = Ok x
-
-unok : {A : Type 0} (x y : A) → ok x ≡ ok y → x ≡ y
-unok x y h = cc
-
--- the value of a step that did not fail
-bind_ok : {A B : Type 0} (r : Result A ℕ) (f : A → Result B ℕ) (y : B) → (r >>= f) ≡ Ok y → (x : A) × (r ≡ Ok x) × (f x ≡ Ok y)
-bind_ok (Ok x) f y e = (x, refl, e)
-bind_ok (Err d) f y e = absurd cc
-
--- a test that did not fail
-test_ok : {A : Type 0} (b : Bool) (d : ℕ) (x y : A) → (if b then Ok x else Err d) ≡ ok y → (b ≡ true) × (x ≡ y)
-test_ok true d x y e = (refl, unok x y e)
-test_ok false d x y e = absurd cc
 
 place_ok : {A : Type 0} (place : ℕ) (r : Result A ℕ) (x : A) → from_place place r ≡ Ok x → r ≡ Ok x
 place_ok place (Ok y) x e = e
@@ -55,9 +45,9 @@ image_read pages place low bytes p e =
     let fits = nat_le low N && nat_lt N pages in
     let judge = λ (n : ℕ) (q : PageParts). if q.number == n then ok q else Err (place + 8) in
     let a = bind_ok (if fits then ok N else Err place) (λ n. from_place (place + 4) (page_at (take 1024 (drop 4 bytes))) >>= judge n) p e in
-    let number = test_ok fits place N a.0 a.1 in
+    let number = guard_ok fits place N a.0 a.1 in
     let b = bind_ok (from_place (place + 4) (page_at (take 1024 (drop 4 bytes)))) (judge a.0) p a.2 in
-    let same = test_ok (b.0.number == a.0) (place + 8) b.0 p b.2 in
+    let same = guard_ok (b.0.number == a.0) (place + 8) b.0 p b.2 in
     let is : N ≡ p.number = number.1 ∙ sym (eqb-true b.0.number a.0 same.0) ∙ ap (λ (q : PageParts). q.number) same.1 in
     record {
       below = omega (arith, is, ltb-true N pages (and_parts (nat_le low N) (nat_lt N pages) number.0).1);
@@ -88,63 +78,36 @@ images_stand pages place low (suc n) at file images e =
 
 -- ---- records
 
--- what was read of one record
 record_stands : (pages place done at : ℕ) (file : List ℕ) (r : RecordParts) → record_at pages place done (drop at file) ≡ Ok r → (number_at (at + 1) file ≡ length r.images) × AreImagesAt pages (at + 5) r.images file
-unfolding record_at
 record_stands pages place done at file r e =
     let bytes = drop at file in
     let N = from_be_bytes w32 (take 4 (drop 1 bytes)) in
-    let whole = λ (kind : Kind) (images : List PageParts). ok (let q : RecordParts = record { kind = kind; images = images } in q) in
-    let after_count = λ (kind : Kind) (count : ℕ). images_at pages (place + 5) 0 count (drop 5 bytes) >>= whole kind in
-    let after_kind = λ (kind : Kind). count_at (place + 1) kind (length bytes) N >>= after_count kind in
-    let a = bind_ok (kind_at place done (slice_index bytes 0)) after_kind r e in
-    let b = bind_ok (count_at (place + 1) a.0 (length bytes) N) (after_count a.0) r a.2 in
-    let c = bind_ok (images_at pages (place + 5) 0 b.0 (drop 5 bytes)) (whole a.0) r b.2 in
-    let count = test_ok (nat_le 5 (length bytes) && (is_count a.0 N && nat_le (6 + 1028 * N) (length bytes))) (place + 1) N b.0 b.1 in
-    let stand = images_stand pages (place + 5) 0 b.0 (at + 5) file c.0 (ap (λ (l : List ℕ). images_at pages (place + 5) 0 b.0 l) (sym (drop-drop 5 at file)) ∙ c.1) in
-    let q : RecordParts = record { kind = a.0; images = c.0 } in
-    let is : c.0 ≡ r.images = ap (λ (x : RecordParts). x.images) (unok q r c.2) in
-    let number : number_at (at + 1) file ≡ length c.0 = ap (λ (l : List ℕ). from_be_bytes w32 (take 4 l)) (sym (drop-drop 1 at file)) ∙ count.1 ∙ sym stand.0 in
-    subst (λ (l : List PageParts). (number_at (at + 1) file ≡ length l) × AreImagesAt pages (at + 5) l file) is (number, stand.1)
+    let s = sized pages place done bytes r e in
+    let count = guard_ok (nat_le 5 (length bytes) && (is_count s.kind N && nat_le (6 + 1028 * N) (length bytes))) (place + 1) N s.count s.count_ok in
+    let stand = images_stand pages (place + 5) 0 s.count (at + 5) file s.pages_read (ap (λ (l : List ℕ). images_at pages (place + 5) 0 s.count l) (sym (drop-drop 5 at file)) ∙ s.images_ok) in (
+      ap (λ (l : List ℕ). from_be_bytes w32 (take 4 l)) (sym (drop-drop 1 at file)) ∙ count.1 ∙ sym s.images,
+      subst (λ (q : RecordParts). AreImagesAt pages (at + 5) q.images file) s.whole stand.1,
+    )
 
 module _ (pages : ℕ) where
   abbrev gram : Grammar RecordParts
   gram = grammar pages
-
-  gram_at : (p d : ℕ) (bytes : List ℕ) → gram.at p d bytes ≡ record_at pages p d bytes
-  unfolding grammar
-  gram_at p d bytes = refl
-
-  pub gram_size : (r : RecordParts) → gram.size r + 1 ≡ size_of r
-  unfolding grammar
-  gram_size r = omega arith
-
-  -- bytes that are skipped are there
-  skipped : (place done k : ℕ) (bytes : List ℕ) (rs : List RecordParts) → walk gram place done k bytes ≡ Ok rs → walk gram (place + k) done 0 (drop k bytes) ≡ Ok rs
-  skipped place done zero bytes rs e = ap (λ p. walk gram p done 0 bytes) (omega arith) ∙ e
-  skipped place done (suc k) [] rs e = absurd cc
-  skipped place done (suc k) (b ∷ bytes) rs e = ap (λ p. walk gram p done 0 (drop k bytes)) (omega arith) ∙ skipped (place + 1) done k bytes rs e
 
   -- a gate, and what was read behind it
   gate_open : (place done gate : ℕ) (bytes : List ℕ) (r : RecordParts) (rs : List RecordParts) → walk gram place done 0 (gate ∷ bytes) ≡ Ok (r ∷ rs)
       → (gram.at (place + 1) done bytes ≡ Ok r) × (walk gram (place + 1) (done + gram.weight r) (gram.size r) bytes ≡ Ok rs)
   gate_open place done gate bytes r rs e = by_gate (gate == 1) e
     where
-      behind : (read : Result RecordParts ℕ) (rest : RecordParts → Result (List RecordParts) ℕ) → then_rest read rest ≡ ok (r ∷ rs) → (read ≡ ok r) × (rest r ≡ ok rs)
-      behind (Err at) rest same = absurd cc
-      behind (Ok q) rest same = by_rest (rest q) refl same
-        where
-          by_rest : (others : Result (List RecordParts) ℕ) → rest q ≡ others → with_front (q ∷ []) others ≡ ok (r ∷ rs) → (ok q ≡ ok r) × (rest r ≡ ok rs)
-          by_rest (Err at) is both = absurd cc
-          by_rest (Ok qs) is both =
-              let first : q ≡ r = cc in
-              let tail : qs ≡ rs = cc in
-              (ap (λ (x : RecordParts). ok x) first, ap rest (sym first) ∙ is ∙ ap (λ (l : List RecordParts). ok l) tail)
-
-      by_gate : (open_gate : Bool) → (if open_gate then then_rest (gram.at (place + 1) done bytes) (λ q. walk gram (place + 1) (done + gram.weight q) (gram.size q) bytes) else Ok []) ≡ ok (r ∷ rs)
+      by_gate : (is_open : Bool) → (if is_open then then_rest (gram.at (place + 1) done bytes) (λ q. walk gram (place + 1) (done + gram.weight q) (gram.size q) bytes) else Ok []) ≡ ok (r ∷ rs)
           → (gram.at (place + 1) done bytes ≡ Ok r) × (walk gram (place + 1) (done + gram.weight r) (gram.size r) bytes ≡ Ok rs)
-      by_gate true same = behind (gram.at (place + 1) done bytes) (λ q. walk gram (place + 1) (done + gram.weight q) (gram.size q) bytes) same
       by_gate false same = absurd cc
+      by_gate true same =
+          let both = then_ok (gram.at (place + 1) done bytes) (λ q. walk gram (place + 1) (done + gram.weight q) (gram.size q) bytes) (r ∷ rs) same in
+          let first : both.0 ≡ r = let whole = both.4 in cc in
+          let others : both.1 ≡ rs = let whole = both.4 in cc in (
+            both.2 ∙ ap (λ (x : RecordParts). ok x) first,
+            ap (λ (q : RecordParts). walk gram (place + 1) (done + gram.weight q) (gram.size q) bytes) (sym first) ∙ both.3 ∙ ap (λ (l : List RecordParts). ok l) others,
+          )
 
   -- a record, with what stands behind it
   one_stands : (place done at : ℕ) (file : List ℕ) (r : RecordParts) (rs : List RecordParts) (cells : List ℕ) → drop at file ≡ cells → walk gram place done 0 cells ≡ Ok (r ∷ rs)
@@ -154,20 +117,21 @@ module _ (pages : ℕ) where
   one_stands place done at file r rs (gate ∷ bytes) is same rest =
       let behind : drop (at + 1) file ≡ bytes = sym (drop-drop 1 at file) ∙ ap (λ (l : List ℕ). drop 1 l) is in
       let both = gate_open place done gate bytes r rs same in
-      let read : record_at pages (place + 1) done (drop (at + 1) file) ≡ Ok r = ap (λ (l : List ℕ). record_at pages (place + 1) done l) behind ∙ sym (gram_at (place + 1) done bytes) ∙ both.0 in
+      let read : record_at pages (place + 1) done (drop (at + 1) file) ≡ Ok r = ap (λ (l : List ℕ). record_at pages (place + 1) done l) behind ∙ sym (grammar-at pages (place + 1) done bytes) ∙ both.0 in
       let here = record_stands pages (place + 1) done (at + 1) file r read in
-      let size = gram_size r in
+      let size = grammar-size pages r in
+      let inside = (grammar_is_local pages).fits (place + 1) done bytes r both.0 in
       let place_is : at + 1 + gram.size r ≡ at + size_of r = omega (arith, size) in
       let next : drop (gram.size r) bytes ≡ drop (at + size_of r) file =
       ap (λ (l : List ℕ). drop (gram.size r) l) (sym behind) ∙ drop-drop (gram.size r) (at + 1) file ∙ ap (λ m. drop m file) place_is in
-      let others = rest (place + 1 + gram.size r) (done + gram.weight r)
-      (ap (λ (l : List ℕ). walk gram (place + 1 + gram.size r) (done + gram.weight r) 0 l) (sym next) ∙ skipped (place + 1) (done + gram.weight r) (gram.size r) bytes rs both.1) in
+      let walks : walk gram (place + 1 + gram.size r) (done + gram.weight r) 0 (drop (at + size_of r) file) ≡ Ok rs =
+      ap (λ (l : List ℕ). walk gram (place + 1 + gram.size r) (done + gram.weight r) 0 l) (sym next) ∙ sym (walk_drop gram (place + 1) (done + gram.weight r) (gram.size r) bytes (omega (arith, inside))) ∙ both.1 in
       let two : at + 2 ≡ at + 1 + 1 = omega arith in
       let six : at + 1 + 5 ≡ at + 6 = omega arith in
-      let end : at + size_of r + taken gram rs ≡ at + taken gram (r ∷ rs) = omega (arith, size, sum_by-cons (λ q. gram.size q + 1) r rs) in (
+      let end : at + size_of r + taken gram rs ≡ at + taken gram (r ∷ rs) = omega (arith, size, taken-cons gram r rs) in (
         ap (λ m. number_at m file) two ∙ here.0,
         subst (λ m. AreImagesAt pages m r.images file) six here.1,
-        subst (λ m. AreRecordsAt pages m (at + size_of r) rs file) end others,
+        subst (λ m. AreRecordsAt pages m (at + size_of r) rs file) end (rest (place + 1 + gram.size r) (done + gram.weight r) walks),
       )
 
   records_stand : (place done at : ℕ) (file : List ℕ) (records : List RecordParts) → walk gram place done 0 (drop at file) ≡ Ok records → AreRecordsAt pages (at + taken gram records) at records file
@@ -201,13 +165,11 @@ module _ (start size : ℕ) (file : List ℕ) (long : start + size ≤ length fi
 
 -- ---- the journal
 
-walk_of : {R : Type 0} (g : Grammar R) (start base : ℕ) (records : List R) (bytes : List ℕ) → read_area g start bytes ≡ Ok (record { base = base; records = records }) → walk g start (base_in bytes) first_gate bytes ≡ Ok records
-walk_of {R} g start base records bytes e = go (nat_lt most_commits (base_in bytes)) (walk g start (base_in bytes) first_gate bytes) e
-  where
-    go : (spent : Bool) (read : Result (List R) ℕ) → (if spent then Err start else from_base (base_in bytes) read) ≡ ok (record { base = base; records = records }) → read ≡ Ok records
-    go true read same = absurd cc
-    go false (Err at) same = absurd cc
-    go false (Ok qs) same = ap (λ (l : List R). ok l) (ap (λ (x : Contents R). x.records) (unok (record { base = base_in bytes; records = qs }) (record { base = base; records = records }) same))
+at_most : (a b : ℕ) → a < b → a ≤ b
+at_most a b less = omega arith
+
+gate_within : first_gate ≤ area_size
+gate_within = omega arith
 
 -- the journal's records stand on the file between the first gate and the closed one
 pub counted_records : (journal : JournalParts) (records : List RecordParts) (file : List ℕ) → journal.end < area_size → HoldsFor journal records file
@@ -216,10 +178,12 @@ counted_records journal records file within holds =
     let start = area_start journal.area in
     let g = grammar journal.pages in
     let bytes = area_of journal.area file in
-    let walks : walk g (start + first_gate) (base_in bytes) 0 (drop first_gate bytes) ≡ Ok records = skipped journal.pages start (base_in bytes) first_gate bytes records (walk_of g start journal.base records bytes holds.holds.reads) in
+    let long : first_gate ≤ length bytes = subst (λ n. first_gate ≤ n) (sym (length-piece start area_size file holds.holds.long)) gate_within in
+    let whole = parts g start journal.base records bytes holds.holds.reads in
+    let walks : walk g (start + first_gate) journal.base 0 (drop first_gate bytes) ≡ Ok records = sym (walk_drop g start journal.base first_gate bytes long) ∙ whole.walks in
     let stand : AreRecordsAt journal.pages journal.end first_gate records bytes =
-    subst (λ m. AreRecordsAt journal.pages m first_gate records bytes) (sym holds.end) (records_stand journal.pages (start + first_gate) (base_in bytes) first_gate bytes records walks) in
-    records_shift start area_size file holds.holds.long journal.pages journal.end first_gate (start + first_gate) records refl (omega (arith, within)) stand
+    subst (λ m. AreRecordsAt journal.pages m first_gate records bytes) (sym holds.end) (records_stand journal.pages (start + first_gate) journal.base first_gate bytes records walks) in
+    records_shift start area_size file holds.holds.long journal.pages journal.end first_gate (start + first_gate) records refl (at_most journal.end area_size within) stand
 
 before_homes : (area : ℕ) → area < 2 → area_start area + area_size ≤ 525312
 before_homes area two = omega (arith, two)

@@ -3,7 +3,6 @@ use Rattle.std.proofs.Common.{◌≡◌, ℕ, ◌+◌, ◌*◌, ◌^◌, ◌<◌
 use Rattle.std.specs.Prelude.{IsSomeAnd}
 use Rattle.std.specs.Int.{w64, to_be_bytes}
 use Rattle.std.proofs.lemmas.Bool.{le-ltb}
-use Rattle.std.proofs.lemmas.List.{length-take-le, drop_at}
 use Rattle.std.proofs.lemmas.Nat.{from_be_bytes-to_be_bytes_8}
 use Rattle.disk_trait.specs.Disk.{written}
 use Rattle.disk_trait.specs.NoteLaws.{length-written}
@@ -12,6 +11,7 @@ use Rattle.redo_journal.specs.Journals.{JournalParts, HoldsFor}
 use Rattle.redo_journal.specs.Record.{grammar}
 use Rattle.redo_journal.specs.Sending.{empty_area}
 use Rattle.redo_journal.specs.Walk.{Grammar}
+use Rattle.redo_journal.proofs.FileLaws.{drop-written}
 
 -- what the bytes say
 empty_reads : {R : Type 0} (g : Grammar R) (start base : ℕ) (rest : List ℕ) → base ≤ most_commits → read_area g start (empty_area base ++ rest) ≡ Ok (record { base = base; records = [] })
@@ -19,14 +19,6 @@ empty_reads g start base rest small =
     let is : base_in (empty_area base ++ rest) ≡ base = from_be_bytes-to_be_bytes_8 base (omega (arith, small)) in
     let low : nat_lt most_commits base ≡ false = le-ltb most_commits base small in
     rw (is, low) refl
-
--- the area on the file
-empty_stands : (start base : ℕ) (file : List ℕ) → start ≤ length file
-    → drop start (written start (empty_area base) file) ≡ empty_area base ++ drop (start + length (empty_area base)) file
-empty_stands start base file fits =
-    let bytes = empty_area base in
-    ap (λ (l : List ℕ). drop start l) (append_assoc (take start file) bytes (drop (start + length bytes) file))
-    ∙ drop_at (take start file) (bytes ++ drop (start + length bytes) file) start (length-take-le start file fits)
 
 empty_front : (base : ℕ) (rest : List ℕ) → take area_size (empty_area base ++ rest) ≡ empty_area base ++ take 262135 rest
 empty_front base rest = refl
@@ -37,7 +29,7 @@ empty_holds g area base file small long =
     let start = area_start area in
     let rest = drop (start + length (empty_area base)) file in
     let is : area_of area (written start (empty_area base) file) ≡ empty_area base ++ take 262135 rest =
-    ap (λ (l : List ℕ). take area_size l) (empty_stands start base file (omega (arith, long))) ∙ empty_front base rest in
+    ap (λ (l : List ℕ). take area_size l) (drop-written start (empty_area base) file (omega (arith, long))) ∙ empty_front base rest in
     record {
       long = omega (arith, long, length-written start (empty_area base) file (omega (arith, long)));
       reads = ap (read_area g start) is ∙ empty_reads g start base (take 262135 rest) small;

@@ -151,6 +151,7 @@ impl Journal {
             → IsSomeAnd (D.content disk.new) (HoldsFor self.now records) }
         ensures own { IfSome (D.content disk.new) (IsOn self.now) }
 
+        ensures told { SameTold (D.content disk.old) (D.content disk.new) }
         ensures fault { HasCause (D.fault_count disk.old) (D.fault_count disk.new) result }
         ensures size { D.size disk.new ≡ D.size disk.old }
     {

@@ -4,7 +4,7 @@ use Rattle.disk_trait.specs.Disk.{piece, written, TornContent, LeavesOnly, Torn}
 use Rattle.page_image.specs.Pages.{PageParts}
 use Rattle.redo_journal.specs.Homes.{home_start}
 use Rattle.redo_journal.specs.Sending.{number_at, image_behind, is_among, AreHome, After, IsImageAt}
-use Rattle.redo_journal.proofs.HomeBytes.{length-piece}
+use Rattle.redo_journal.proofs.FileLaws.{length-piece}
 use Rattle.redo_journal.proofs.HomeImages.{among_one, one_home}
 use Rattle.redo_journal.proofs.HomeMoments.{in_some, and_some, ok_more, looked, wrote, changes_then}
 use Rattle.redo_journal.proofs.home.send_image.Goals as goal
