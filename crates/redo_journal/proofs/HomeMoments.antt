@@ -63,20 +63,20 @@ module _ {D : Type 0} (content : D → Option (List ℕ)) (may_leave : D → Lis
   module _ (counts_now : (d : D) (t : ℕ) (c : List ℕ) → t ≤ moment d → may_leave d c → left_since d t c) (named : ℕ → Bool) (old mid new : D)
       (first : ChangesHomes content may_leave moment left_since named old mid) (second : ChangesHomes content may_leave moment left_since named mid new)
     where
-    -- what the second leaves of an image that the first left
-    step : (c : List ℕ) → After (DiffersInHomes named) (may_leave mid) c → After (DiffersInHomes named) (may_leave old) c
-    step c (d, left, differs) =
-        let past = first.any_moment.each d (counts_now mid (moment old) d first.any_moment.later left) in
-        (past.0, past.1, differs_then named past.0 d c past.2 differs)
+      -- what the second leaves of an image that the first left
+      step : (c : List ℕ) → After (DiffersInHomes named) (may_leave mid) c → After (DiffersInHomes named) (may_leave old) c
+      step c (d, left, differs) =
+          let past = first.any_moment.each d (counts_now mid (moment old) d first.any_moment.later left) in
+          (past.0, past.1, differs_then named past.0 d c past.2 differs)
 
-    pub changes_then : ChangesHomes content may_leave moment left_since named old new
-    changes_then = record {
-      told = λ c is.
-          let here = some_and (content mid) (DiffersInHomes named c) (first.told c is) in
-          some_more (content new) (DiffersInHomes named here.0) (DiffersInHomes named c) (λ d. differs_then named c here.0 d here.2) (second.told here.0 here.1);
-      any_moment = record {
-        later = omega (arith, first.any_moment.later, second.any_moment.later);
-        each = λ c left. ⊎_elim (first.any_moment.each c) (step c) (second.any_moment.before (moment old) c first.any_moment.later left);
-        before = λ t c le left. ⊎_elim (first.any_moment.before t c le) (λ after. inr (step c after)) (second.any_moment.before t c (omega (arith, le, first.any_moment.later)) left);
-      };
-    }
+      pub changes_then : ChangesHomes content may_leave moment left_since named old new
+      changes_then = record {
+        told = λ c is.
+            let here = some_and (content mid) (DiffersInHomes named c) (first.told c is) in
+            some_more (content new) (DiffersInHomes named here.0) (DiffersInHomes named c) (λ d. differs_then named c here.0 d here.2) (second.told here.0 here.1);
+        any_moment = record {
+          later = omega (arith, first.any_moment.later, second.any_moment.later);
+          each = λ c left. ⊎_elim (first.any_moment.each c) (step c) (second.any_moment.before (moment old) c first.any_moment.later left);
+          before = λ t c le left. ⊎_elim (first.any_moment.before t c le) (λ after. inr (step c after)) (second.any_moment.before t c (omega (arith, le, first.any_moment.later)) left);
+        };
+      }

@@ -98,19 +98,19 @@ module _ (pages end at : ℕ) (records : List RecordParts) (first : List ℕ) (c
 module _ {D : Type 0} (content : D → Option (List ℕ)) (may_leave : D → List ℕ → Type 0) (moment : D → ℕ) (left_since : D → ℕ → List ℕ → Type 0)
     (counts_now : (d : D) (t : ℕ) (c : List ℕ) → t ≤ moment d → may_leave d c → left_since d t c)
   where
-  -- a call that only looks changes no home
-  pub then_looked : (named : _) (old mid new : D) → ChangesHomes content may_leave moment left_since named old mid → content new ≡ content mid → LeavesOnly moment left_since mid new (may_leave mid)
-      → ChangesHomes content may_leave moment left_since named old new
-  then_looked named old mid new before same leaves =
-      changes_then content may_leave moment left_since counts_now named old mid new before (looked content may_leave moment left_since named mid new same leaves)
+    -- a call that only looks changes no home
+    pub then_looked : (named : _) (old mid new : D) → ChangesHomes content may_leave moment left_since named old mid → content new ≡ content mid → LeavesOnly moment left_since mid new (may_leave mid)
+        → ChangesHomes content may_leave moment left_since named old new
+    then_looked named old mid new before same leaves =
+        changes_then content may_leave moment left_since counts_now named old mid new before (looked content may_leave moment left_since named mid new same leaves)
 
-  -- the calls that send the images of the next record change the homes of the records alone
-  pub record_changes : (pages end at count : ℕ) (records : List RecordParts) (first : List ℕ) (old mid new : D) → RecordsLeft pages end at records first (content mid) → at + 6 ≤ end → end ≤ 525312
-      → ChangesHomes content may_leave moment left_since (is_named records) old mid → ((file : List ℕ) → content mid ≡ Some file → count ≡ number_at (at + 2) file)
-      → ((file : List ℕ) (images : List PageParts) → content mid ≡ Some file → AreImagesAt pages (at + 6) images file → length images ≡ count → ChangesHomes content may_leave moment left_since (is_among images) mid new)
-      → ChangesHomes content may_leave moment left_since (is_named records) old new
-  record_changes pages end at count records first old mid new l some low before read sent =
-      let next = records_next pages end at records first (content mid) l some low in
-      changes_then content may_leave moment left_since counts_now (is_named records) old mid new before
-      (changes_more content may_leave moment left_since (is_among next.here.images) (is_named records) mid new next.among
-      (sent next.file next.here.images next.told next.stand (sym (read next.file next.told ∙ next.count))))
+    -- the calls that send the images of the next record change the homes of the records alone
+    pub record_changes : (pages end at count : ℕ) (records : List RecordParts) (first : List ℕ) (old mid new : D) → RecordsLeft pages end at records first (content mid) → at + 6 ≤ end → end ≤ 525312
+        → ChangesHomes content may_leave moment left_since (is_named records) old mid → ((file : List ℕ) → content mid ≡ Some file → count ≡ number_at (at + 2) file)
+        → ((file : List ℕ) (images : List PageParts) → content mid ≡ Some file → AreImagesAt pages (at + 6) images file → length images ≡ count → ChangesHomes content may_leave moment left_since (is_among images) mid new)
+        → ChangesHomes content may_leave moment left_since (is_named records) old new
+    record_changes pages end at count records first old mid new l some low before read sent =
+        let next = records_next pages end at records first (content mid) l some low in
+        changes_then content may_leave moment left_since counts_now (is_named records) old mid new before
+        (changes_more content may_leave moment left_since (is_among next.here.images) (is_named records) mid new next.among
+        (sent next.file next.here.images next.told next.stand (sym (read next.file next.told ∙ next.count))))

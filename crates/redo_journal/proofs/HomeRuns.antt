@@ -87,12 +87,12 @@ module _ (pages at left : ℕ) (images : List PageParts) (first : List ℕ) (con
 module _ {D : Type 0} (content : D → Option (List ℕ)) (may_leave : D → List ℕ → Type 0) (moment : D → ℕ) (left_since : D → ℕ → List ℕ → Type 0)
     (counts_now : (d : D) (t : ℕ) (c : List ℕ) → t ≤ moment d → may_leave d c → left_since d t c)
   where
-  -- the calls that send the next image change the homes of the images alone
-  pub images_change : (pages at left : ℕ) (images : List PageParts) (first : List ℕ) (old mid new : D) → ImagesLeft pages at left images first (content mid) → 0 < left → at + 1028 ≤ 525312
-      → ChangesHomes content may_leave moment left_since (is_among images) old mid
-      → ((file : List ℕ) (p : PageParts) → content mid ≡ Some file → IsImageAt pages at p file → ChangesHomes content may_leave moment left_since (is_among (p ∷ [])) mid new)
-      → ChangesHomes content may_leave moment left_since (is_among images) old new
-  images_change pages at left images first old mid new l some low before one =
-      let next = images_next pages at left images first (content mid) l some low in
-      changes_then content may_leave moment left_since counts_now (is_among images) old mid new before
-      (changes_more content may_leave moment left_since (is_among (next.image ∷ [])) (is_among images) mid new next.among (one next.file next.image next.told next.stands))
+    -- the calls that send the next image change the homes of the images alone
+    pub images_change : (pages at left : ℕ) (images : List PageParts) (first : List ℕ) (old mid new : D) → ImagesLeft pages at left images first (content mid) → 0 < left → at + 1028 ≤ 525312
+        → ChangesHomes content may_leave moment left_since (is_among images) old mid
+        → ((file : List ℕ) (p : PageParts) → content mid ≡ Some file → IsImageAt pages at p file → ChangesHomes content may_leave moment left_since (is_among (p ∷ [])) mid new)
+        → ChangesHomes content may_leave moment left_since (is_among images) old new
+    images_change pages at left images first old mid new l some low before one =
+        let next = images_next pages at left images first (content mid) l some low in
+        changes_then content may_leave moment left_since counts_now (is_among images) old mid new before
+        (changes_more content may_leave moment left_since (is_among (next.image ∷ [])) (is_among images) mid new next.among (one next.file next.image next.told next.stands))

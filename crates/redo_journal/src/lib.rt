@@ -15,6 +15,8 @@ mod scan;
 mod spelling;
 #[cfg(test)]
 mod tests;
+#[cfg(test)]
+mod tests_home;
 mod turn;
 
 pub use faults::{AppendFault, AreaFault};
