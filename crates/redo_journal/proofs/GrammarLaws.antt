@@ -17,16 +17,16 @@ use Rattle.redo_journal.proofs.WalkLaws.{IsLocal}
 abbrev ok : {A : Type 0} → A → Result A ℕ
 ok x = Ok x
 
-unok : {A : Type 0} (x y : A) → ok x ≡ ok y → x ≡ y
+pub unok : {A : Type 0} (x y : A) → ok x ≡ ok y → x ≡ y
 unok x y h = cc
 
 -- the value of a step that did not fail
-bind_ok : {A B : Type 0} (r : Result A ℕ) (f : A → Result B ℕ) (y : B) → (r >>= f) ≡ Ok y → (x : A) × (r ≡ Ok x) × (f x ≡ Ok y)
+pub bind_ok : {A B : Type 0} (r : Result A ℕ) (f : A → Result B ℕ) (y : B) → (r >>= f) ≡ Ok y → (x : A) × (r ≡ Ok x) × (f x ≡ Ok y)
 bind_ok (Ok x) f y e = (x, refl, e)
 bind_ok (Err d) f y e = absurd cc
 
 -- a test that did not fail
-guard_ok : {A : Type 0} (b : Bool) (d : ℕ) (x y : A) → cond b (Ok x) (Err d) ≡ ok y → (b ≡ true) × (x ≡ y)
+pub guard_ok : {A : Type 0} (b : Bool) (d : ℕ) (x y : A) → cond b (Ok x) (Err d) ≡ ok y → (b ≡ true) × (x ≡ y)
 guard_ok true d x y e = (refl, unok x y e)
 guard_ok false d x y e = absurd cc
 
@@ -68,18 +68,18 @@ images_length pages place low (suc n) xs images e =
     ap length (sym (unok (a.0 ∷ d.0) images d.2)) ∙ long
 
 -- how a record was read
-record Sized (pages place done : ℕ) (bytes : List ℕ) (r : RecordParts) : Type 0 where
-  kind : Kind
-  count : ℕ
-  pages_read : List PageParts
-  kind_ok : kind_at place done (get_or bytes 0 0) ≡ Ok kind
-  count_ok : count_at (place + 1) kind (length bytes) (from_be_bytes w32 (take 4 (drop 1 bytes))) ≡ Ok count
-  images_ok : images_at pages (place + 5) 0 count (drop 5 bytes) ≡ Ok pages_read
-  whole : record { kind = kind; images = pages_read } ≡ r
-  images : length r.images ≡ count
-  room : 6 + 1028 * count ≤ length bytes
+pub record Sized (pages place done : ℕ) (bytes : List ℕ) (r : RecordParts) : Type 0 where
+  pub kind : Kind
+  pub count : ℕ
+  pub pages_read : List PageParts
+  pub kind_ok : kind_at place done (get_or bytes 0 0) ≡ Ok kind
+  pub count_ok : count_at (place + 1) kind (length bytes) (from_be_bytes w32 (take 4 (drop 1 bytes))) ≡ Ok count
+  pub images_ok : images_at pages (place + 5) 0 count (drop 5 bytes) ≡ Ok pages_read
+  pub whole : record { kind = kind; images = pages_read } ≡ r
+  pub images : length r.images ≡ count
+  pub room : 6 + 1028 * count ≤ length bytes
 
-sized : (pages place done : ℕ) (bytes : List ℕ) (r : RecordParts) → record_at pages place done bytes ≡ Ok r → Sized pages place done bytes r
+pub sized : (pages place done : ℕ) (bytes : List ℕ) (r : RecordParts) → record_at pages place done bytes ≡ Ok r → Sized pages place done bytes r
 unfolding record_at
 sized pages place done bytes r e =
     let N = from_be_bytes w32 (take 4 (drop 1 bytes)) in

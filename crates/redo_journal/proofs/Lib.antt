@@ -2,10 +2,17 @@ pub mod Appending
 pub mod AreaLaws
 pub mod FileLaws
 pub mod GrammarLaws
+pub mod HomeBytes
+pub mod HomeImages
+pub mod HomeMoments
+pub mod HomeRecords
+pub mod HomeRuns
+pub mod HomeWalks
 pub mod ImageReads
 pub mod ImageSteps
 pub mod Laying
 pub mod Moments
 pub mod ScanSteps
 pub mod Spelled
+pub mod Turning
 pub mod WalkLaws

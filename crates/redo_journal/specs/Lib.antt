@@ -6,4 +6,5 @@ pub mod Judging
 pub mod Record
 pub mod Replays
 pub mod Results
+pub mod Sending
 pub mod Walk

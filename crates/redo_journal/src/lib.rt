@@ -7,6 +7,7 @@ mod area;
 mod faults;
 mod fields;
 mod gated;
+mod home;
 mod journal;
 mod kind;
 mod replay;
@@ -14,6 +15,9 @@ mod scan;
 mod spelling;
 #[cfg(test)]
 mod tests;
+#[cfg(test)]
+mod tests_home;
+mod turn;
 
 pub use faults::{AppendFault, AreaFault};
 pub use journal::Journal;

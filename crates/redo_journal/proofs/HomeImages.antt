@@ -1,0 +1,80 @@
+-- Images that are sent home one behind the other.
+use Rattle.std.proofs.Common.{◌≡◌, ◌⊎◌, inl, inr, ℕ, ◌+◌, ◌*◌, ◌<◌, ◌≤◌, ◌==◌, Bool, true, false, List, [], ◌∷◌, ◌++◌, length, Option, Some, None, Ok, is_some, if◌then◌else◌, refl, sym, ◌∙◌, ap, subst, arith}
+use Rattle.std.proofs.lemmas.Bool.{eq-eqb, eqb-true, cases_Bool}
+use Rattle.disk_trait.specs.Disk.{piece, written, Torn}
+use Rattle.disk_trait.specs.NoteLaws.{torn_written}
+use Rattle.page_image.specs.Pages.{PageParts}
+use Rattle.page_image.specs.Fields.{page_at}
+use Rattle.redo_journal.specs.Homes.{DiffersInHomes, home_start, home_of}
+use Rattle.redo_journal.specs.Replays.{later, last_image}
+use Rattle.redo_journal.specs.Sending.{AreHome, is_among}
+use Rattle.redo_journal.proofs.HomeBytes.{torn_home, home_written, differs_not, differs_then, differs_more, same_home}
+
+-- ---- the last image of a page
+
+later_assoc : (a b c : Option PageParts) → later (later a b) c ≡ later a (later b c)
+later_assoc (Some p) b c = refl
+later_assoc None b c = refl
+
+pub last-append : (xs ys : List PageParts) (page : ℕ) → last_image (xs ++ ys) page ≡ later (last_image ys page) (last_image xs page)
+last-append [] ys page = none_before (last_image ys page)
+  where
+    none_before : (o : Option PageParts) → o ≡ later o None
+    none_before (Some p) = refl
+    none_before None = refl
+last-append (p ∷ xs) ys page =
+    ap (λ (o : Option PageParts). later o (if p.number == page then Some p else None)) (last-append xs ys page)
+    ∙ later_assoc (last_image ys page) (last_image xs page) (if p.number == page then Some p else None)
+
+last-one : (p q : PageParts) (page : ℕ) → last_image (p ∷ []) page ≡ Some q → (p.number ≡ page) × (p ≡ q)
+last-one p q page e = of_test (p.number == page) refl e
+  where
+    of_test : (test : Bool) → (p.number == page) ≡ test → later None (if test then Some p else None) ≡ Some q → (p.number ≡ page) × (p ≡ q)
+    of_test true is same = (eqb-true p.number page is, cc)
+    of_test false is same = absurd cc
+
+pub among_one : (p : PageParts) → is_among (p ∷ []) p.number ≡ true
+among_one p = rw (eq-eqb p.number p.number refl) refl
+
+some_later : (a b : Option PageParts) → is_some b ≡ true → is_some (later a b) ≡ true
+some_later (Some p) b is = refl
+some_later None b is = is
+
+some_first : (a b : Option PageParts) → is_some a ≡ true → is_some (later a b) ≡ true
+some_first (Some p) b is = refl
+some_first None b is = absurd cc
+
+pub among_left : (xs ys : List PageParts) (page : ℕ) → is_among xs page ≡ true → is_among (xs ++ ys) page ≡ true
+among_left xs ys page is = ap (λ (o : Option PageParts). is_some o) (last-append xs ys page) ∙ some_later (last_image ys page) (last_image xs page) is
+
+pub among_right : (xs ys : List PageParts) (page : ℕ) → is_among ys page ≡ true → is_among (xs ++ ys) page ≡ true
+among_right xs ys page is = ap (λ (o : Option PageParts). is_some o) (last-append xs ys page) ∙ some_first (last_image ys page) (last_image xs page) is
+
+-- ---- sent home
+
+pub none_home : (file : List ℕ) → AreHome [] file file
+none_home file = record { elsewhere = differs_not (is_among []) file; homes = λ page p e. absurd cc }
+
+pub one_home : (p : PageParts) (bytes file : List ℕ) → length bytes ≡ 1024 → page_at bytes ≡ Ok p → home_start p.number + 1024 ≤ length file → AreHome (p ∷ []) file (written (home_start p.number) bytes file)
+one_home p bytes file long is fits = record {
+  elsewhere = torn_home (is_among (p ∷ [])) p.number file (written (home_start p.number) bytes file) (among_one p)
+      (subst (λ n. Torn (home_start p.number) n file (written (home_start p.number) bytes file)) long (torn_written (home_start p.number) bytes file (omega (arith, long, fits))));
+  homes = λ page q e.
+      let same = last-one p q page e in
+      ap (λ n. page_at (home_of n (written (home_start p.number) bytes file))) (sym same.0) ∙ ap page_at (home_written p.number bytes file long fits) ∙ is ∙ ap (λ (x : PageParts). Ok x) same.1;
+}
+
+module _ (xs ys : List PageParts) (a b c : List ℕ) (first : AreHome xs a b) (second : AreHome ys b c) where
+  last_home : (page : ℕ) (p : PageParts) (last : Option PageParts) → last_image ys page ≡ last → later last (last_image xs page) ≡ Some p → page_at (home_of page c) ≡ Ok p
+  last_home page p (Some q) is e = second.homes page p (is ∙ e)
+  last_home page p None is e =
+      let not_named : is_among ys page ≡ false = ap (λ (o : Option PageParts). is_some o) is in
+      ap page_at (same_home (is_among ys) b c page second.elsewhere not_named) ∙ first.homes page p e
+
+  pub home_then : AreHome (xs ++ ys) a c
+  home_then = record {
+    elsewhere = differs_then (is_among (xs ++ ys)) a b c
+        (differs_more (is_among xs) (is_among (xs ++ ys)) a b (among_left xs ys) first.elsewhere)
+        (differs_more (is_among ys) (is_among (xs ++ ys)) b c (among_right xs ys) second.elsewhere);
+    homes = λ page p e. last_home page p (last_image ys page) refl (sym (last-append xs ys page) ∙ e);
+  }

@@ -1,0 +1,69 @@
+-- Images as they stand in an area, and what a file and its crash images become as they are sent home.
+use Rattle.std.specs.Prelude.{◌≡◌, ⊤, ℕ, ◌+◌, ◌*◌, ◌-◌, ◌<◌, Bool, List, [], ◌∷◌, ◌++◌, is_some, length, take, Option, Some, IsSomeAnd, Ok}
+use Rattle.std.specs.Int.{w32, w64, from_be_bytes, to_be_bytes}
+use Rattle.disk_trait.specs.Disk.{piece, LeavesOnly}
+use Rattle.page_image.specs.Pages.{PageParts}
+use Rattle.page_image.specs.Fields.{page_at}
+use Rattle.redo_journal.specs.Area.{first_gate}
+use Rattle.redo_journal.specs.Homes.{DiffersInHomes, home_of}
+use Rattle.redo_journal.specs.Journals.{JournalParts}
+use Rattle.redo_journal.specs.Record.{RecordParts, image_size, size_of}
+use Rattle.redo_journal.specs.Replays.{last_image}
+
+-- ---- what stands in an area
+
+-- the number of four bytes at a place of the file
+abbrev pub number_at : ℕ → List ℕ → ℕ
+number_at at file = from_be_bytes w32 (piece at 4 file)
+
+-- the image behind a page's number
+abbrev pub image_behind : ℕ → List ℕ → List ℕ
+image_behind at file = piece (at + 4) 1024 file
+
+-- at this place stands this page of the store, behind its number
+pub record IsImageAt (pages at : ℕ) (p : PageParts) (file : List ℕ) : Type 0 where
+  pub below : p.number < pages
+  pub number : number_at at file ≡ p.number
+  pub image : page_at (image_behind at file) ≡ Ok p
+
+-- from this place on stand these pages
+abbrev pub AreImagesAt : ℕ → ℕ → List PageParts → List ℕ → Type 0
+AreImagesAt pages at [] file = ⊤
+AreImagesAt pages at (p ∷ ps) file = IsImageAt pages at p file × AreImagesAt pages (at + image_size) ps file
+
+-- from the gate at this place up to the one at `end` stand these records
+abbrev pub AreRecordsAt : ℕ → ℕ → ℕ → List RecordParts → List ℕ → Type 0
+AreRecordsAt pages end at [] file = at ≡ end
+AreRecordsAt pages end at (r ∷ rs) file =
+    (number_at (at + 2) file ≡ length r.images) × AreImagesAt pages (at + 6) r.images file × AreRecordsAt pages end (at + size_of r) rs file
+
+-- ---- what is sent
+
+-- one of the images is of this page
+abbrev pub is_among : List PageParts → ℕ → Bool
+is_among images page = is_some (last_image images page)
+
+-- each page among the images has the last of them at home, and all else is as before
+pub record AreHome (images : List PageParts) (old new : List ℕ) : Type 0 where
+  pub elsewhere : DiffersInHomes (is_among images) old new
+  pub homes : (page : ℕ) (p : PageParts) → last_image images page ≡ Some p → page_at (home_of page new) ≡ Ok p
+
+-- what a step makes of crash images
+abbrev pub After : (List ℕ → List ℕ → Type 0) → (List ℕ → Type 0) → List ℕ → Type 0
+After step old c = (d : List ℕ) × old d × step d c
+
+-- Calls that change such homes alone, of what a read gives and of what a crash at any moment may leave.
+pub record ChangesHomes {D : Type 0} (content : D → Option (List ℕ)) (may_leave : D → List ℕ → Type 0) (moment : D → ℕ) (left_since : D → ℕ → List ℕ → Type 0)
+    (named : ℕ → Bool) (old new : D) : Type 0 where
+  pub told : (c : List ℕ) → content old ≡ Some c → IsSomeAnd (content new) (DiffersInHomes named c)
+  pub any_moment : LeavesOnly moment left_since old new (After (DiffersInHomes named) (may_leave old))
+
+-- ---- turning over
+
+-- a base and a closed gate
+abbrev pub empty_area : ℕ → List ℕ
+empty_area base = to_be_bytes w64 base ++ 0 ∷ []
+
+-- the journal of the other area, empty and with this base
+abbrev pub turned_over : ℕ → JournalParts → JournalParts
+turned_over commits journal = record journal { area = 1 - journal.area; base = commits; commits = 0; end = first_gate }
