@@ -196,7 +196,7 @@ impl Journal {
         ensures appended { OnOk result (IfSome self.old.staged (λ r. self.new ≡ appended r self.old)) }
 
         // It is refused for want of room exactly where the record is too long, without a call of the disk.
-        ensures no_room { (result ≡ Err (AppendFault.NoRoom (need_of self.old.staged) (left_of self.old))) ↔ (left_of self.old < need_of self.old.staged) }
+        ensures no_room { (need left : ℕ) → (result ≡ Err (AppendFault.NoRoom need left)) ↔ ((need ≡ need_of self.old.staged) × (left ≡ left_of self.old) × (left < need)) }
         ensures no_call { left_of self.old < need_of self.old.staged → disk.new ≡ disk.old }
         ensures unchanged { OnErr result (self.new ≡ self.old) }
 
