@@ -1,0 +1,14 @@
+//! The calls of open transactions, under page locks, over the frames of a store's pages.
+#![tactic(auto)]
+
+mod finishing;
+mod known;
+mod open;
+mod reading;
+mod table;
+#[cfg(test)]
+mod tests;
+mod transactions;
+mod writing;
+
+pub use transactions::Transactions;
