@@ -1,5 +1,5 @@
 //! The names that a transaction knows.
-ghost use Rattle.std.specs.Prelude.{◌≡◌, ◌<◌, ◌++◌, ◌∷◌, [], true, IfOk, length, if◌then◌else◌};
+ghost use Rattle.std.specs.Prelude.{◌≡◌, ◌<◌, ◌++◌, ◌∷◌, [], false, IfOk, length};
 ghost use Rattle.object_graph.specs.Names.{root_name};
 ghost use Rattle.object_graph.specs.Graphs.{has_name};
 
@@ -23,14 +23,14 @@ impl Model for KnownNames {
     ghost use Rattle.std.specs.List.{AllByRecursion};
     ghost use Rattle.indexmap.specs.IndexSet.{spare};
     ghost use Rattle.object_graph.specs.NameParts.{NameParts};
-    ghost use Rattle.object_graph.specs.Names.{IsNumberOfName};
     ghost use Rattle.page_image.specs.Fields.{name_of};
+    ghost use Rattle.transactions.specs.KnownNumbers.{IsOfName};
 
     ghost Value = { List NameParts };
 
     ghost view = { λ k. map name_of k.numbers.keys };
 
-    ghost invariant = { λ k. AllByRecursion IsNumberOfName k.numbers.keys × (4096 ≤ length k.numbers.keys + spare k.numbers) };
+    ghost invariant = { λ k. AllByRecursion IsOfName k.numbers.keys × (4096 ≤ length k.numbers.keys + spare k.numbers) };
 }
 
 impl KnownNames {
@@ -52,15 +52,16 @@ impl KnownNames {
     pub fn knows(&self, name: Name) -> bool
         ensures { result ≡ has_name self.now name }
     {
-        self.numbers.contains(&name.to_u64())
+        self.numbers.contains(&name.copy().to_u64())
     }
 
-    /// Adds a name, if it isn't there.
+    /// Adds a name.
     pub fn add(&mut self, name: Name)
-        requires { length self.old < 4096 }
-        ensures { self.new ≡ (if has_name self.old name then self.old else self.old ++ name ∷ []) }
+        requires room { length self.old < 4096 }
+        requires absent { has_name self.old name ≡ false }
+        ensures { self.new ≡ self.old ++ name ∷ [] }
     {
-        let Ok(_) = self.numbers.insert(name.to_u64()) else {
+        let Ok(_) = self.numbers.insert(name.copy().to_u64()) else {
             unreachable!();
         };
     }
