@@ -1,1 +1,2 @@
 pub mod KnownNumbers
+pub mod Written

@@ -1,5 +1,5 @@
 -- The table of open transactions.
-use Rattle.std.specs.Prelude.{◌≡◌, ◌≢◌, ℕ, ◌<◌, ◌≤◌, Bool, true, false, not, ◌&&◌, ◌==◌, Option, Some, None, List, [], ◌∷◌, length, nat_eq, nat_le, slice_get, option_and_then}
+use Rattle.std.specs.Prelude.{◌≡◌, ◌≢◌, ℕ, ◌<◌, ◌≤◌, Bool, true, false, not, ◌&&◌, ◌==◌, Option, Some, None, List, [], ◌∷◌, length, nat_eq, nat_le, slice_get, slice_index, option_and_then}
 use Rattle.std.specs.Map.{keys_of, lookup}
 use Rattle.object_graph.specs.NameParts.{NameParts}
 use Rattle.object_graph.specs.Names.{root_name}
@@ -29,9 +29,15 @@ entry_of table txn = lookup (nat_eq txn) table
 abbrev pub fresh_entry : OpenParts
 fresh_entry = record { known = root_name ∷ []; written = [] }
 
--- each page is above the one before it
+-- each page is above those before it
 abbrev pub IsAscending : List ℕ → Type 0
-IsAscending pages = (i j m n : ℕ) → i < j → slice_get pages i ≡ Some m → slice_get pages j ≡ Some n → m < n
+IsAscending pages = (i j : ℕ) → i < j → j < length pages → slice_index pages i < slice_index pages j
+
+-- a page goes here, between those below it and those above it
+pub record IsPlaceFor (page at : ℕ) (pages : List ℕ) : Type 0 where
+  pub within : at ≤ length pages
+  pub below : (i : ℕ) → i < at → slice_index pages i < page
+  pub above : (i : ℕ) → at ≤ i → i < length pages → page < slice_index pages i
 
 -- the written page at a place
 abbrev pub written_at : Entries → ℕ → ℕ → Option ℕ

@@ -2,7 +2,7 @@
 ghost use Rattle.std.specs.Prelude.{◌≡◌, ◌≤◌, ◌<◌, true, false, IfOk, length, nat_le};
 ghost use Rattle.object_graph.specs.Graphs.{has_name};
 ghost use Rattle.store_model.specs.Causes.{has_page};
-ghost use Rattle.transactions.specs.Tables.{OpenParts, IsAscending, fresh_entry, is_wide, knows_target, is_full_for, NotesPage, NotesTarget};
+ghost use Rattle.transactions.specs.Tables.{OpenParts, IsAscending, IsPlaceFor, fresh_entry, is_wide, knows_target, is_full_for, NotesPage, NotesTarget};
 
 use crate::known::{KnownNames, MOST_KNOWN};
 use object_graph::{Memory, Name};
@@ -101,7 +101,7 @@ impl Open {
         ensures { NotesPage page self.old self.new }
     {
         if !self.has_written(page) {
-            let at = self.place_of(page);
+            let at = self.place_for(page);
             let Ok(()) = self.written.insert(at, page) else {
                 unreachable!();
             };
@@ -109,13 +109,14 @@ impl Open {
     }
 
     /// Where a page goes among the written ones.
-    fn place_of(&self, page: u32) -> usize
-        ensures within { result ≤ length self.now.written }
+    fn place_for(&self, page: u32) -> usize
+        requires { has_page self.now.written page ≡ false }
+        ensures { IsPlaceFor page result self.now.written }
     {
-        self.written
-            .iter()
-            .filter(|written| **written < page)
-            .count()
+        match self.written.binary_search(&page) {
+            Ok(at) => at,
+            Err(at) => at,
+        }
     }
 
     /// Notes a name that was answered as known.

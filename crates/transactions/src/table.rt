@@ -88,6 +88,6 @@ impl Table {
     pub fn remove(&mut self, txn: u32)
         ensures { self.new ≡ filter (λ e. not (nat_eq txn e.0)) self.old }
     {
-        let _ = self.entries.shift_remove(&txn);
+        self.entries.retain(|number, _| *number != txn);
     }
 }
