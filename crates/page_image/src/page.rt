@@ -1,7 +1,8 @@
 //! A page as a value.
 ghost use Rattle.std.specs.Prelude.{◌≡◌, ◌<◌, ℕ, true, false, length, IfOk, IfSome, IfNone, OnErr, IfErr, Ok, Err, IsTrue, slice_index_or, ◌&&◌, nat_lt};
 ghost use Rattle.object_graph.specs.Slots.{has_slot};
-ghost use Rattle.page_image.specs.Slots.{fresh_slot, taken, freed, with_number, with_ref, has_room};
+ghost use Rattle.std.specs.List.{AllByRecursion};
+ghost use Rattle.page_image.specs.Slots.{IsWhole, fresh_slot, taken, freed, with_number, with_ref, has_room};
 ghost use Rattle.page_image.specs.Fields.{page_at};
 ghost use Rattle.page_image.specs.Spelling.{page_bytes};
 ghost use Rattle.page_image.specs.Pages.{PageParts, IsPage, empty_page, slot_at, with_slot, object_at, object_of, slot_freed, IsFull, IsFirstWithRoom, IsNextName};
@@ -112,6 +113,13 @@ impl Page {
         object_in(self.number, slot, &slots[usize::from(slot)])
     }
 
+    /// What each page is, for those who rely on it: it does nothing else.
+    pub fn is_page(&self)
+        ensures { IsPage self.now }
+    {
+        are_whole(&self.slots);
+    }
+
     /// The slots that are in use.
     pub fn used(&self) -> SlotSet
         ensures { (slot : ℕ) → has_slot result slot ≡ (slot_at self.now slot).in_use }
@@ -203,6 +211,15 @@ fn object_in(page: u32, at: u16, slot: &Slot) -> Option<Object>
         number: slot.number(),
         refs,
     })
+}
+
+/// Each slot is what a slot is.
+fn are_whole(slots: &[Slot])
+    ensures { AllByRecursion IsWhole slots.now }
+{
+    for slot in 0..slots.len() {
+        slots[slot].is_whole();
+    }
 }
 
 /// The slots that are in use.

@@ -1,6 +1,6 @@
 //! A slot of a page.
 ghost use Rattle.std.specs.Prelude.{◌≡◌, ◌<◌, true, length, slice_get, Some};
-ghost use Rattle.page_image.specs.Slots.{IsSlot, fresh_slot, taken, freed, with_number, with_ref, has_room, IsReference};
+ghost use Rattle.page_image.specs.Slots.{IsSlot, IsWhole, fresh_slot, taken, freed, with_number, with_ref, has_room, IsReference};
 
 use object_graph::Name;
 use std::marker::Model;
@@ -84,6 +84,14 @@ impl Slot {
         ensures fits { IsSlot self.now }
     {
         self.in_use
+    }
+
+    /// What each slot is.
+    pub fn is_whole(&self)
+        ensures { IsWhole self.now }
+    {
+        let _generation = self.generation;
+        let _number = self.number;
     }
 
     /// The stored generation.

@@ -5,12 +5,8 @@ use Rattle.std.proofs.lemmas.List.{take_more, append-nil}
 use Rattle.object_graph.specs.SlotParts.{SlotParts}
 use Rattle.page_image.specs.Slots.{IsWhole}
 use Rattle.page_image.specs.Spelling.{slot_bytes}
-use Rattle.page_image.proofs.Writes.{onward}
+use Rattle.page_image.proofs.Writes.{onward, all_more}
 use Rattle.page_image.proofs.encode.put_slots.Goals as goal
-
-all-append : (slots : List SlotParts) (slot : SlotParts) → AllByRecursion IsWhole slots → IsWhole slot → AllByRecursion IsWhole (slots ++ slot ∷ [])
-all-append [] slot are is = (is, tt)
-all-append (s ∷ slots) slot are is = (are.0, all-append slots slot are.1 is)
 
 pub loop-slot-preserved : goal.loop-slot-preserved
 loop-slot-preserved c =
@@ -22,7 +18,7 @@ loop-slot-preserved c =
     let place : 64 + 48 * (l.slot + 1) ≡ n + length c.bytes_of.result = omega (arith, c.bytes_of.ensures.long) in
     let more : take (l.slot + 1) slots ≡ take l.slot slots ++ slot ∷ [] = take_more slots l.slot slot there ∙ ap (λ (s : SlotParts). take l.slot slots ++ s ∷ []) (sym c.index-slots-slot.is) in (
       c.put.ensures.long ∙ l.invariant.0,
-      subst (AllByRecursion IsWhole) (sym more) (all-append (take l.slot slots) slot l.invariant.1 c.bytes_of.ensures.whole),
+      subst (AllByRecursion IsWhole) (sym more) (all_more IsWhole (take l.slot slots) slot l.invariant.1 c.bytes_of.ensures.whole),
       ap (λ (k : ℕ). take k c.put.new.out) place
           ∙ (onward (take 64 c.args.out.now) (take n l.out) (take (n + length c.bytes_of.result) c.put.new.out) (flat_map slot_bytes (take l.slot slots)) c.bytes_of.result l.invariant.2 c.put.ensures.front
           ∙ ap (λ (b : List ℕ). take 64 c.args.out.now ++ (flat_map slot_bytes (take l.slot slots) ++ b)) (c.bytes_of.ensures.bytes ∙ sym (append-nil (slot_bytes slot)))
