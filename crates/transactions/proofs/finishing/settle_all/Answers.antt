@@ -1,3 +1,5 @@
+use Rattle.transactions.proofs.Refusals.{may_read}
+use Rattle.transactions.proofs.FramesSeen.{frames_kept}
 use Rattle.transactions.proofs.Made.{new_on_page}
 use Rattle.transactions.proofs.Images.{ref_on_page}
 use Rattle.transactions.proofs.Seen.{IsThere}
