@@ -7,7 +7,9 @@ pub mod Made
 pub mod Numbers
 pub mod Opened
 pub mod PagesChanged
+pub mod References
 pub mod Refusals
 pub mod Seen
 pub mod Shown
 pub mod Viewed
+pub mod Writes

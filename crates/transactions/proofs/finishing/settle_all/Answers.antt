@@ -1,3 +1,4 @@
+use Rattle.transactions.proofs.Writes.{write_stands}
 use Rattle.transactions.proofs.Refusals.{may_read}
 use Rattle.transactions.proofs.FramesSeen.{frames_kept}
 use Rattle.transactions.proofs.Made.{new_on_page}
