@@ -1,17 +1,21 @@
 -- What a put or a set does.
-use Rattle.std.proofs.Common.{◌≡◌, ◌≢◌, ℕ, ◌<◌, Bool, true, List, length, Some, refl, sym, subst, ap, ◌∙◌, arith}
+use Rattle.std.proofs.Common.{◌≡◌, ◌≢◌, ℕ, ◌<◌, Bool, true, false, List, [], ◌∷◌, length, Option, Some, refl, sym, subst, ap, ◌∙◌, arith}
+use Rattle.object_graph.specs.declared.calls.Call.TheVariants.{Put, Set}
+use Rattle.object_graph.specs.declared.calls.Refusal.{Refusal}
+use Rattle.object_graph.specs.declared.calls.Refusal.TheVariants.{Busy, TooWide}
+use Rattle.store_model.specs.Causes.{first_met, first_refusal, when, stranger, strange_target, bad_field, busy_to_write, too_wide}
 use Rattle.object_graph.specs.NameParts.{NameParts}
 use Rattle.object_graph.specs.SlotParts.{SlotParts}
 use Rattle.object_graph.specs.Graphs.{has_name}
-use Rattle.store_model.specs.Worlds.{World, Transaction, Write, link, assign, view, slots_of, fields_of}
+use Rattle.store_model.specs.Worlds.{World, Transaction, Write, nothing, link, assign, view, slots_of, fields_of}
 use Rattle.store_model.specs.Images.{shown_in}
 use Rattle.store_model.specs.Steps.{with_page, with_transaction, writes}
 use Rattle.page_image.specs.Slots.{fresh_slot, with_number, with_ref}
 use Rattle.page_image.specs.Pages.{PageParts, slot_at, with_slot}
 use Rattle.page_buffer.specs.Frames.{frame_at, with_frame, written}
 use Rattle.page_buffer.specs.declared.frame.Frame.{Frame}
-use Rattle.page_locks.specs.Holding.{is_in_way, IsNobody, AddsExclusive}
-use Rattle.transactions.specs.Tables.{OpenParts, HaveSameNames, ChangesEntry, NotesPage}
+use Rattle.page_locks.specs.Holding.{is_in_way, IsNobody, IsLeast, AddsExclusive}
+use Rattle.transactions.specs.Tables.{OpenParts, is_wide, knows_target, HaveSameNames, ChangesEntry, NotesPage}
 use Rattle.transactions.specs.Standing.{TransactionsParts, image_in, wrote, IsEntry, AreFramesOf, Stands}
 use Rattle.transactions.proofs.Viewed.{written_name}
 use Rattle.transactions.proofs.Shown.{length-shown}
@@ -21,7 +25,7 @@ use Rattle.transactions.proofs.LocksHeld.{locks_exclude}
 use Rattle.transactions.proofs.FramesSeen.{sees, frames_change}
 use Rattle.transactions.proofs.Opened.{IsOpened, open_lawful, known_there, known_placed}
 use Rattle.transactions.proofs.References.{there_whole}
-use Rattle.transactions.proofs.Refusals.{nobody_wrote}
+use Rattle.transactions.proofs.Refusals.{is_open, is_known, is_known_target, may_write, is_busy_to_write, wide_by, nobody_wrote}
 
 -- ---- what is known before
 
@@ -65,6 +69,39 @@ known_slot s w to_write txn e name page slot o known page_is slot_is nobody =
   where
     image : (frame_at s.frames name.page).current ≡ image_in w (view w o.of) name.page
     image = known_image s w to_write txn e name o known (subst (λ p. IsNobody (is_in_way to_write s.locks.held txn p)) page_is nobody)
+
+-- ---- the causes of a put and of a set
+
+-- those that come after the names are known
+abbrev pub from_page : World → ℕ → NameParts → List (Option Refusal)
+from_page w txn name = busy_to_write w txn name.page ∷ too_wide w txn name.page ∷ []
+
+pub put_known : (s : TransactionsParts) (w : World) (txn : ℕ) (e : OpenParts) (name : NameParts) (value : ℕ) → IsOpened s w txn e → has_name e.known name ≡ true
+    → first_refusal w (Put txn name value) nothing ≡ first_met (from_page w txn name)
+put_known s w txn e name value o known =
+    is_open s w txn e (stranger w txn name ∷ from_page w txn name) o ∙ is_known s w txn e name (from_page w txn name) o known
+
+pub set_known : (s : TransactionsParts) (w : World) (txn : ℕ) (e : OpenParts) (name : NameParts) (field : ℕ) (target : Option NameParts) → IsOpened s w txn e → has_name e.known name ≡ true
+    → knows_target e.known target ≡ true → first_refusal w (Set txn name field target) nothing ≡ first_met (bad_field w name field ∷ from_page w txn name)
+set_known s w txn e name field target o known known_target =
+    is_open s w txn e (stranger w txn name ∷ strange_target w txn target ∷ bad_field w name field ∷ from_page w txn name) o
+    ∙ (is_known s w txn e name (strange_target w txn target ∷ bad_field w name field ∷ from_page w txn name) o known
+    ∙ is_known_target s w txn e target (bad_field w name field ∷ from_page w txn name) o known_target)
+
+pub write_busy : (s : TransactionsParts) (w : World) (txn : ℕ) (e : OpenParts) (name : NameParts) (page holder : ℕ) → IsOpened s w txn e → page ≡ name.page
+    → IsLeast (is_in_way true s.locks.held txn page) holder → first_met (from_page w txn name) ≡ Some (Busy holder)
+write_busy s w txn e name page holder o is least =
+    is_busy_to_write s w txn name.page holder (too_wide w txn name.page ∷ []) o.ready (subst (λ p. IsLeast (is_in_way true s.locks.held txn p) holder) is least)
+
+pub write_wide : (s : TransactionsParts) (w : World) (txn : ℕ) (e : OpenParts) (name : NameParts) (page : ℕ) (b : Bool) → IsOpened s w txn e → page ≡ name.page
+    → IsNobody (is_in_way true s.locks.held txn page) → is_wide e.written page ≡ b → first_met (from_page w txn name) ≡ when b TooWide
+write_wide s w txn e name page b o is nobody wide =
+    may_write s w txn name.page (too_wide w txn name.page ∷ []) o.ready (subst (λ p. IsNobody (is_in_way true s.locks.held txn p)) is nobody)
+    ∙ (wide_by s w txn e name.page b [] o (subst (λ p. is_wide e.written p ≡ b) is wide) ∙ alone b)
+  where
+    alone : (b : Bool) → first_met (when b TooWide ∷ []) ≡ when b TooWide
+    alone true = refl
+    alone false = refl
 
 -- ---- the write
 
