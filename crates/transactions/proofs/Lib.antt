@@ -1,2 +1,17 @@
 pub mod KnownNumbers
 pub mod Written
+pub mod Entries
+pub mod FramesSeen
+pub mod FreeSlots
+pub mod Images
+pub mod LocksHeld
+pub mod Made
+pub mod Numbers
+pub mod Opened
+pub mod PagesChanged
+pub mod References
+pub mod Refusals
+pub mod Seen
+pub mod Shown
+pub mod Viewed
+pub mod Writes

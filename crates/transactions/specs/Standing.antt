@@ -1,13 +1,14 @@
 -- Which world the open transactions stand for.
 use Rattle.std.specs.Prelude.{◌≡◌, ℕ, ◌<◌, Bool, true, false, Option, Some, None, List, map, reverse, length, IsTrue}
+use Rattle.std.specs.List.{AllByRecursion}
 use Rattle.std.specs.Map.{keys_of}
 use Rattle.object_graph.specs.declared.names.Object.{Object}
-use Rattle.store_model.specs.Worlds.{World, Transaction, find_transaction, transaction, view}
+use Rattle.store_model.specs.Worlds.{World, Transaction, fields_of, find_transaction, transaction, view}
 use Rattle.store_model.specs.Causes.{has_page}
 use Rattle.store_model.specs.Images.{shown_in}
 use Rattle.store_model.specs.Lawful.{IsLawful}
 use Rattle.page_image.specs.Pages.{PageParts}
-use Rattle.page_buffer.specs.Frames.{frame_at}
+use Rattle.page_buffer.specs.Frames.{clean_frame, frame_at}
 use Rattle.page_buffer.specs.declared.frame.Frame.{Frame}
 use Rattle.page_locks.specs.Holding.{LockTable, numbers, shares, excludes}
 use Rattle.transactions.specs.Tables.{most_open_here, OpenParts, Entries, entry_of, HaveSamePages, HaveSameNames}
@@ -54,20 +55,27 @@ abbrev pub image_in : World → List Object → ℕ → PageParts
 image_in w graph page = record { number = page; slots = shown_in w graph page }
 
 -- The frame of a page: the committed image shows the graph. Where a transaction wrote the page, the frame is dirty
--- and the current image shows that transaction's view. Else it is clean.
+-- and the current image shows that transaction's view. Else it is clean, with equal images.
 pub record IsFrameOf (w : World) (page : ℕ) (frame : Frame) : Type 0 where
   pub before : frame.before ≡ image_in w w.graph page
   pub current : (txn : ℕ) → IsTrue (wrote w txn page) → frame.current ≡ image_in w (view w (transaction w txn)) page
   pub dirty : (txn : ℕ) → IsTrue (wrote w txn page) → frame.dirty ≡ true
-  pub clean : ((txn : ℕ) → wrote w txn page ≡ false) → frame.dirty ≡ false
+  pub clean : ((txn : ℕ) → wrote w txn page ≡ false) → frame ≡ clean_frame frame.before
 
+-- the frames of all pages, among them the pages written
 pub record AreFramesOf (w : World) (frames : List Frame) : Type 0 where
   pub count : length frames ≡ w.pages
+  pub written : (txn page : ℕ) → IsTrue (wrote w txn page) → page < w.pages
   pub each : (page : ℕ) → page < w.pages → IsFrameOf w page (frame_at frames page)
+
+-- each object of the graph has as many references as its page gives it
+abbrev pub AreWhole : World → List Object → Type 0
+AreWhole w graph = AllByRecursion (λ o. length o.refs ≡ fields_of w o.name.page) graph
 
 -- the transactions stand for the world
 pub record Stands (s : TransactionsParts) (w : World) : Type 0 where
   pub limit : w.open_limit ≡ most_open_here
+  pub whole : AreWhole w w.graph
   pub table : IsTable w s.table
   pub locks : AreLocks w s.locks
   pub frames : AreFramesOf w s.frames
