@@ -9,7 +9,7 @@ use Rattle.object_graph.specs.Slots.{has_slot}
 use Rattle.object_graph.specs.declared.names.Object.{Object}
 use Rattle.object_graph.specs.Graphs.{has_name, has_object, is_at, objects_at}
 use Rattle.object_graph.specs.Slots.{below}
-use Rattle.store_model.specs.Images.{shown_slot}
+use Rattle.store_model.specs.Images.{shown_slot, shown_of, shown_in, shown}
 use Rattle.store_model.specs.Worlds.{World, Transaction, Opening, slots_of, fields_of, starts, view, new_object}
 use Rattle.store_model.specs.Causes.{has_page}
 use Rattle.store_model.specs.Lawful.{IsOwn, IsLawfulTransaction}
@@ -20,7 +20,6 @@ use Rattle.store_model.proofs.Reach.{name-with_writes, view_object}
 use Rattle.store_model.proofs.Cuts.{safe_view}
 use Rattle.store_model.specs.Lawful.{IsOrderly}
 use Rattle.store_model.specs.Worlds.{is_unfreed, is_old}
-use Rattle.store_model.specs.Images.{shown_of, shown_in, shown}
 use Rattle.cut_model.specs.States.{state_of, state_after, KeepsOpening}
 use Rattle.cut_model.specs.CutPages.{Copied, Changed, CutPage, bare_page, settled_with, settled_image, images_of_copy, images_of_change, with_commit}
 use Rattle.cut_model.specs.Sound.{IsSafeImage, IsBornRight, IsSoundPage, IsSound, IsFitCopy}

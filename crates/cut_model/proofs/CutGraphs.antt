@@ -8,10 +8,10 @@ use Rattle.store_model.specs.Worlds.{Opening}
 use Rattle.object_graph.proofs.Members.{In, each_in}
 use Rattle.store_model.proofs.Cuts.{below_bound}
 use Rattle.cut_model.specs.States.{State, shown_by}
-use Rattle.cut_model.specs.Images.{objects_of}
+use Rattle.store_model.specs.Images.{objects_of}
 use Rattle.cut_model.specs.CutPages.{Copied, Changed, CutPage, bare_page, committed_image, settled_with, settled_image, images_of_before, images_of_copy, images_of_change, images_of, objects_on, cut_graph}
 use Rattle.cut_model.specs.Sound.{IsSafeObject, IsSafeImage, IsSoundPage, IsSound}
-use Rattle.cut_model.proofs.Flats.{in_flat, flat_in}
+use Rattle.store_model.proofs.Flats.{in_flat, flat_in}
 use Rattle.store_model.proofs.Lists.{in_below}
 
 -- the settled image is one of the images

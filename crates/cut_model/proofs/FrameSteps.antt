@@ -15,7 +15,7 @@ use Rattle.object_graph.specs.SlotParts.{SlotParts}
 use Rattle.object_graph.specs.declared.names.Object.{Object}
 use Rattle.object_graph.specs.Graphs.{has_name, is_at, objects_at}
 use Rattle.object_graph.specs.Slots.{below}
-use Rattle.store_model.specs.Images.{slot_with, shown_slot}
+use Rattle.store_model.specs.Images.{slot_with, shown_slot, shown_of, shown_in, unfreed_at, no_slot}
 use Rattle.store_model.specs.Worlds.{World, Transaction, slots_of, fields_of, Write, link, assign, starts, view, with_writes, written_by, new_object}
 use Rattle.store_model.specs.Steps.{writes, makes}
 use Rattle.object_graph.proofs.Members.{In, in_filter, filter_in, in_map, each_in, or_left, or_right}
@@ -23,15 +23,12 @@ use Rattle.object_graph.proofs.Paths.{name_eq_same, name_eq_refl}
 use Rattle.store_model.proofs.Places.{map_of_map, filter_of_map}
 use Rattle.store_model.proofs.Reach.{name-written_by, name-with_writes}
 use Rattle.store_model.specs.Worlds.{is_unfreed}
-use Rattle.store_model.specs.Images.{shown_of, shown_in}
-use Rattle.cut_model.specs.States.{unfreed_at}
-use Rattle.cut_model.specs.Images.{no_slot}
 use Rattle.cut_model.specs.Frames.{written_slot, written_name, freed_slot}
 use Rattle.store_model.specs.Lawful.{CountsUp, OnlyLastUnfreed, IsLastOfPlace, IsOrderly}
 use Rattle.store_model.proofs.Orders.{lawful_one, placed_one}
 use Rattle.store_model.proofs.Committed.{view_is_orderly}
-use Rattle.cut_model.proofs.Shown.{one_each, in_unfreed_at}
-use Rattle.cut_model.proofs.Flats.{get-map_below, length-map_below}
+use Rattle.store_model.proofs.Shown.{one_each, in_unfreed_at}
+use Rattle.store_model.proofs.Flats.{get-map_below, length-map_below}
 use Rattle.store_model.proofs.Places.{objects_at-map}
 use Rattle.cut_model.proofs.Views.{unfreed_at-map}
 use Rattle.cut_model.proofs.Commits.{map_same}

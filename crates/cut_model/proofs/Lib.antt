@@ -1,5 +1,3 @@
-pub mod Flats
-pub mod Shown
 pub mod CutGraphs
 pub mod Safety
 pub mod Views

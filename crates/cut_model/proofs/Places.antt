@@ -13,13 +13,13 @@ use Rattle.object_graph.proofs.Members.{In}
 use Rattle.object_graph.proofs.Paths.{name_of, has_object_in}
 use Rattle.store_model.specs.Lawful.{IsOrderly}
 use Rattle.store_model.specs.Worlds.{is_unfreed}
-use Rattle.cut_model.specs.States.{unfreed_at, generation_with, generation_at}
-use Rattle.cut_model.specs.Images.{no_slot, object_in, objects_of}
+use Rattle.cut_model.specs.States.{generation_with, generation_at}
+use Rattle.store_model.specs.Images.{unfreed_at, no_slot, object_in, objects_of}
 use Rattle.cut_model.specs.CutPages.{CutPage, bare_page, settled_image, cut_graph, IsMarked}
 use Rattle.cut_model.specs.Sound.{IsSafeObject}
 use Rattle.cut_model.specs.Doomed.{IsDoomed, AreDoomedOn, AreMarks, is_used, is_doomed}
-use Rattle.cut_model.proofs.Flats.{in_objects_of, objects_of_in}
-use Rattle.cut_model.proofs.Shown.{one_each, in_unfreed_at}
+use Rattle.store_model.proofs.Flats.{in_objects_of, objects_of_in}
+use Rattle.store_model.proofs.Shown.{one_each, in_unfreed_at}
 use Rattle.cut_model.proofs.CutGraphs.{settled_in, in_cut_graph}
 use Rattle.store_model.proofs.Committed.{path_last}
 

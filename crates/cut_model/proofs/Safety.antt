@@ -1,7 +1,7 @@
 -- What the marks of a closed sound cut leave is garbage, and all that was lost is left.
-use Rattle.std.proofs.Common.{◌≡◌, ℕ, ◌<◌, true, false, not, ◌&&◌, List, [], ◌∷◌, length, get_or, Some, refl, sym, subst, ap, ◌∙◌, inl, inr, arith}
-use Rattle.std.specs.List.{list_any, filter, AllByRecursion}
-use Rattle.std.proofs.lemmas.Bool.{and_parts, cases_Bool, not-false}
+use Rattle.std.proofs.Common.{◌≡◌, ℕ, ◌<◌, true, false, not, ◌&&◌, List, [], ◌∷◌, length, get_or, Some, refl, sym, subst, ap, ◌∙◌, arith}
+use Rattle.std.specs.List.{list_any, filter}
+use Rattle.std.proofs.lemmas.Bool.{and_parts, not-false}
 use Rattle.object_graph.specs.NameParts.{NameParts}
 use Rattle.object_graph.specs.Names.{name_eq}
 use Rattle.object_graph.specs.SlotParts.{SlotParts}
@@ -9,29 +9,20 @@ use Rattle.object_graph.specs.Slots.{has_slot}
 use Rattle.object_graph.specs.declared.names.Object.{Object}
 use Rattle.object_graph.specs.Graphs.{has_name, has_object, is_to, IsPath}
 use Rattle.store_model.specs.Worlds.{World, Opening, starts, is_freed, IsReached}
-use Rattle.store_model.specs.Worlds.{IsOutOfReach}
 use Rattle.store_model.specs.Lawful.{IsPlaced}
 use Rattle.store_model.specs.Worlds.{slots_of, fields_of}
 use Rattle.object_graph.proofs.Members.{In, any_in, in_any, each_in, filter_in}
-use Rattle.object_graph.proofs.Paths.{name_eq_same, has_name_in, has_object_in, in_has_object, reached_more, path_first}
-use Rattle.store_model.proofs.OutOfReach.{unreached_is_out}
+use Rattle.object_graph.proofs.Paths.{name_eq_same, has_object_in, in_has_object, reached_more, path_first}
+use Rattle.store_model.proofs.OutOfReach.{unreached_is_out, reached_unfreed}
 use Rattle.store_model.specs.Lawful.{KeepsLost}
 use Rattle.store_model.specs.Worlds.{is_unfreed, is_old, IsLost}
-use Rattle.store_model.specs.Images.{shown}
+use Rattle.store_model.specs.Images.{shown, objects_of}
 use Rattle.cut_model.specs.States.{State, state_of}
-use Rattle.cut_model.specs.Images.{objects_of}
 use Rattle.cut_model.specs.CutPages.{CutPage, bare_page, settled_image, cut_graph, IsMarked}
 use Rattle.cut_model.specs.Sound.{IsBornRight, IsSound, IsClosedBeside}
 use Rattle.cut_model.specs.Doomed.{IsDoomed, IsSafeToFree, KeepsDoomed}
-use Rattle.cut_model.proofs.Shown.{one_each, in_shown, shows_object}
+use Rattle.store_model.proofs.Shown.{one_each, in_shown, shows_object}
 use Rattle.cut_model.proofs.CutGraphs.{settled_in, settled_shown, in_cut_graph, cut_graph_safe}
-
--- what is reached isn't freed
-pub reached_unfreed : (w : World) (name : NameParts) → AllByRecursion (IsOutOfReach w) w.freed → IsReached w name → not (is_freed w name) ≡ true
-reached_unfreed w name freed reached = elim (cases_Bool (is_freed w name)) [
-  | inl e ↦ absurd ((each_in (IsOutOfReach w) w.freed name freed (has_name_in w.freed name e)).0 reached)
-  | inr e ↦ ap not e
-]
 
 -- an unfreed object is in the settled image of its page
 pub settled_has : (w : World) (opening : Opening) (pages : List CutPage) (o : Object) → IsClosedBeside w opening pages → In o w.graph → is_unfreed w.freed o ≡ true

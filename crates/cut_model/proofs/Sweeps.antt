@@ -15,10 +15,11 @@ use Rattle.object_graph.proofs.Members.{In, append_left, append_right, in_append
 use Rattle.object_graph.proofs.Paths.{has_name_in, in_has_name, has_object_in}
 use Rattle.store_model.specs.Lawful.{IsOrderly}
 use Rattle.store_model.specs.Worlds.{is_unfreed}
-use Rattle.cut_model.specs.States.{unfreed_at}
+use Rattle.store_model.specs.Images.{unfreed_at}
 use Rattle.cut_model.specs.CutPages.{CutPage}
 use Rattle.cut_model.specs.Doomed.{IsSafeToFree, KeepsDoomed, AreDoomedOn}
-use Rattle.cut_model.proofs.Shown.{AreApart, apart_below, generation_of, one_each, in_unfreed_at}
+use Rattle.store_model.proofs.Places.{generation_of}
+use Rattle.store_model.proofs.Shown.{AreApart, apart_below, one_each, in_unfreed_at}
 use Rattle.store_model.proofs.Keeps.{in_names_in}
 use Rattle.store_model.proofs.OutOfReach.{Follows, name_stays, out_stays}
 

@@ -21,11 +21,10 @@ use Rattle.store_model.proofs.Cuts.{next_name_is_new}
 use Rattle.store_model.proofs.OutOfReach.{safe_one}
 use Rattle.store_model.specs.Lawful.{IsOrderly}
 use Rattle.store_model.specs.Worlds.{is_unfreed, IsLost}
-use Rattle.store_model.specs.Images.{shown_in, shown}
-use Rattle.cut_model.specs.States.{unfreed_at, generation_with, generation_at, KeepsOpening}
-use Rattle.cut_model.specs.Images.{objects_of}
+use Rattle.store_model.specs.Images.{shown_in, shown, unfreed_at, objects_of}
+use Rattle.cut_model.specs.States.{generation_with, generation_at, KeepsOpening}
 use Rattle.cut_model.specs.Sound.{IsSafeObject, IsSafeImage}
-use Rattle.cut_model.proofs.Shown.{in_shown}
+use Rattle.store_model.proofs.Shown.{in_shown}
 
 -- ---- a change that keeps names keeps the name of each place
 
@@ -117,7 +116,7 @@ safe_image w opening graph page keeps names kept =
     each_from (IsSafeObject opening) (objects_of page (shown_in w graph page)) (λ o m.
     let shown = in_shown (slots_of w page) (fields_of w page) graph w.freed page o m in
     record {
-      name = shown.generation ∙ (names o.name.page o.name.slot ∙ keeps.names o.name.page o.name.slot);
+      name = sym (ap (λ os. generation_with os (length (objects_at graph o.name.page o.name.slot))) shown.first) ∙ (names o.name.page o.name.slot ∙ keeps.names o.name.page o.name.slot);
       kept = λ safe target lost r. kept o.name target safe lost shown.unfreed
           (in_any (λ (p : Object). name_eq p.name o.name && list_any (is_to target) p.refs) graph o shown.there
           (and_from (name_eq o.name o.name) (list_any (is_to target) o.refs) (name_eq_refl o.name) r));

@@ -1,11 +1,12 @@
 -- What a cut keeps of each page, and the graph of a closed cut.
 use Rattle.std.specs.Prelude.{ℕ, Option, Some, None, List, [], ◌∷◌, ◌++◌, length, slice_index_or, unwrap_or, option_map, if◌then◌else◌, nat_lt}
+use Rattle.std.specs.List.{flat_map}
 use Rattle.object_graph.specs.NameParts.{NameParts}
 use Rattle.object_graph.specs.SlotParts.{SlotParts}
 use Rattle.object_graph.specs.declared.names.Object.{Object}
 use Rattle.object_graph.specs.Graphs.{IsReachedFrom}
 use Rattle.object_graph.specs.Slots.{below}
-use Rattle.cut_model.specs.Images.{flat, objects_of}
+use Rattle.store_model.specs.Images.{objects_of}
 
 -- a copy of a page: its current image, its before-image where it was dirty, and the number of commits as it was taken
 pub record Copied : Type 0 where
@@ -67,10 +68,10 @@ with_copy c p = record p { copy = Some c; after = kept_beside c.moment p.after }
 
 -- the objects in all images of a page, and of all pages: the graph of a cut
 abbrev pub objects_on : ℕ → CutPage → List Object
-objects_on page p = flat (objects_of page) (images_of p)
+objects_on page p = flat_map (objects_of page) (images_of p)
 
 abbrev pub cut_graph : List CutPage → List Object
-cut_graph pages = flat (λ page. objects_on page (slice_index_or pages page bare_page)) (below (length pages))
+cut_graph pages = flat_map (λ page. objects_on page (slice_index_or pages page bare_page)) (below (length pages))
 
 -- the marks: what is reached in the graph of the cut
 abbrev pub IsMarked : List NameParts → List CutPage → NameParts → Type 0

@@ -10,7 +10,7 @@ use Rattle.store_model.specs.Causes.{has_page}
 use Rattle.store_model.specs.Worlds.{IsOutOfReach}
 use Rattle.object_graph.specs.Members.{In}
 use Rattle.store_model.specs.Worlds.{is_old, IsLost}
-use Rattle.cut_model.specs.Images.{no_slot, objects_of}
+use Rattle.store_model.specs.Images.{no_slot, objects_of}
 use Rattle.cut_model.specs.CutPages.{CutPage, bare_page, settled_image, IsMarked}
 
 -- a name in use in the settled image of its page, neither born nor marked

@@ -11,7 +11,7 @@ use Rattle.store_model.specs.Worlds.{IsOutOfReach}
 use Rattle.store_model.specs.Lawful.{IsOrderly}
 use Rattle.store_model.specs.Worlds.{is_unfreed, is_old, IsLost}
 use Rattle.cut_model.specs.States.{State, state_of, KeepsOpening, generation_at, shown_by}
-use Rattle.cut_model.specs.Images.{objects_of}
+use Rattle.store_model.specs.Images.{objects_of}
 use Rattle.cut_model.specs.CutPages.{Copied, CutPage, bare_page, committed_image, settled_image, images_of_copy, images_of}
 
 -- an object in an image has the name of its place, and doesn't refer to what was lost, unless it was lost itself

@@ -1,11 +1,11 @@
 -- What is committed, the name that each place has, and what a cut's opening keeps.
-use Rattle.std.specs.Prelude.{◌≡◌, ℕ, ◌+◌, List, [], ◌∷◌, length, filter}
+use Rattle.std.specs.Prelude.{◌≡◌, ℕ, ◌+◌, List, [], ◌∷◌, length}
 use Rattle.object_graph.specs.NameParts.{NameParts}
 use Rattle.object_graph.specs.SlotParts.{SlotParts}
 use Rattle.object_graph.specs.declared.names.Object.{Object}
 use Rattle.object_graph.specs.Graphs.{objects_at}
-use Rattle.store_model.specs.Worlds.{World, Transaction, Opening, slots_of, fields_of, is_unfreed, view}
-use Rattle.store_model.specs.Images.{shown_of}
+use Rattle.store_model.specs.Worlds.{World, Transaction, Opening, slots_of, fields_of, view}
+use Rattle.store_model.specs.Images.{unfreed_at, shown_of}
 use Rattle.store_model.specs.Lawful.{KeepsLost}
 
 -- what is committed: the slots of each page and the references of its objects, the graph, the number of commits, and what is freed
@@ -26,10 +26,6 @@ state_after w t = record { slots = slots_of w; fields = fields_of w; graph = vie
 -- the committed image of a page
 abbrev pub shown_by : State → ℕ → List SlotParts
 shown_by s page = shown_of (s.slots page) (s.fields page) s.graph s.freed page
-
--- the unfreed objects at a place: one at most
-abbrev pub unfreed_at : List Object → List NameParts → ℕ → ℕ → List Object
-unfreed_at graph freed page slot = filter (is_unfreed freed) (objects_at graph page slot)
 
 -- the generation of the name that a place has: of its unfreed object, or of the object that is made there next
 abbrev pub generation_with : List Object → ℕ → ℕ

@@ -7,12 +7,10 @@ ghost use Rattle.object_graph.specs.declared.names.Object.{Object};
 ghost use Rattle.object_graph.specs.Graphs.{has_name, is_at, objects_at};
 ghost use Rattle.object_graph.specs.Members.{In};
 ghost use Rattle.store_model.specs.Worlds.{World, Transaction, Write, slots_of, fields_of, starts, view, is_unfreed};
-ghost use Rattle.store_model.specs.Images.{shown, shown_in, shown_slot};
+ghost use Rattle.store_model.specs.Images.{shown, shown_in, shown_slot, unfreed_at, no_slot};
 ghost use Rattle.store_model.specs.Causes.{has_page};
 ghost use Rattle.store_model.specs.Steps.{writes, makes};
 ghost use Rattle.store_model.specs.Lawful.{CountsUp, OnlyLastUnfreed, IsLawfulTransaction, IsApart, IsOrderly};
-ghost use Rattle.cut_model.specs.States.{unfreed_at};
-ghost use Rattle.cut_model.specs.Images.{no_slot};
 ghost use Rattle.cut_model.specs.Frames.{written_name, written_slot, freed_slot};
 
 /// In the view of an open transaction names count up too, and only the last of a place is unfreed.

@@ -1,11 +1,14 @@
 -- What is out of reach stays so.
-use Rattle.std.proofs.Common.{◌≡◌, true, sym, subst, ◌⊎◌, inl, inr}
+use Rattle.std.proofs.Common.{◌≡◌, true, not, sym, subst, ap, ◌⊎◌, inl, inr}
+use Rattle.std.specs.List.{AllByRecursion}
+use Rattle.std.proofs.lemmas.Bool.{cases_Bool}
 use Rattle.object_graph.specs.NameParts.{NameParts}
 use Rattle.object_graph.specs.Graphs.{has_object, IsReachedFrom}
-use Rattle.store_model.specs.Worlds.{World, Transaction, starts, view, IsReached, IsHeldBy}
+use Rattle.store_model.specs.Worlds.{World, Transaction, starts, view, is_freed, IsReached, IsHeldBy}
 use Rattle.store_model.specs.Worlds.{IsOutOfReach}
 use Rattle.store_model.specs.Lawful.{IsLawfulTransaction}
 use Rattle.object_graph.proofs.Members.{In, each_in, each_from}
+use Rattle.object_graph.proofs.Paths.{has_name_in}
 use Rattle.store_model.proofs.Locks.{name_in_view}
 use Rattle.store_model.proofs.Reach.{IsSafeView, held_is_reached_or_own}
 use Rattle.store_model.proofs.Cuts.{safe_view, commit_keeps_unreached}
@@ -43,3 +46,10 @@ out_stays w after name lawful follows there unreached =
       | inl e ↦ λ r. unreached (subst (λ g. IsReachedFrom g (starts w) name) e r)
       | inr s ↦ λ r. commit_keeps_unreached w s.0 name s.1 there unreached (subst (λ g. IsReachedFrom g (starts w) name) s.2 r)
     ])
+
+-- what is reached isn't freed
+pub reached_unfreed : (w : World) (name : NameParts) → AllByRecursion (IsOutOfReach w) w.freed → IsReached w name → not (is_freed w name) ≡ true
+reached_unfreed w name freed reached = elim (cases_Bool (is_freed w name)) [
+  | inl e ↦ absurd ((each_in (IsOutOfReach w) w.freed name freed (has_name_in w.freed name e)).0 reached)
+  | inr e ↦ ap not e
+]

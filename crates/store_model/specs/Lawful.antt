@@ -34,6 +34,10 @@ OnlyLastUnfreed graph freed = AllByRecursion (IsLastOfPlace graph) (filter (is_u
 abbrev pub RefersWithin : List Object → List NameParts → Type 0
 RefersWithin graph starts = (name target : NameParts) → IsReachedFrom graph starts name → IsTrue (refers graph name target) → IsTrue (has_object graph target)
 
+-- each object has as many references as an object of its page
+abbrev pub HaveFields : (ℕ → ℕ) → List Object → Type 0
+HaveFields fields graph = AllByRecursion (λ o. length o.refs ≡ fields o.name.page) graph
+
 -- ---- an open transaction
 
 -- a write is to a known name on a page written, and its target is none or known

@@ -5,7 +5,9 @@ pub mod Steps
 pub mod Histories
 pub mod Lawful
 pub mod Images
+pub mod FromImages
 pub mod Limits
 pub mod Texts
 pub mod Examples
+pub mod ImageExamples
 pub mod Lanes

@@ -2,17 +2,19 @@
 ghost use Rattle.std.specs.Prelude.{◌≡◌, ℕ, suc, Some, false, IsTrue, ◌<◌, ◌⊎◌, List, length, map};
 ghost use Rattle.std.specs.List.{AllByRecursion};
 ghost use Rattle.object_graph.specs.NameParts.{NameParts};
+ghost use Rattle.object_graph.specs.SlotParts.{SlotParts};
 ghost use Rattle.object_graph.specs.Slots.{below};
 ghost use Rattle.object_graph.specs.declared.calls.Call.TheVariants.{New, Commit, EndCut};
 ghost use Rattle.object_graph.specs.declared.calls.Reply.TheVariants.{Done, Made, Committed};
 ghost use Rattle.object_graph.specs.Graphs.{has_name, has_object, objects_at};
-ghost use Rattle.store_model.specs.Worlds.{World, Transaction, OpenedCut, Note, Event, IsLost, fresh_world, transaction, is_freed, IsReached, IsHeldBy};
+ghost use Rattle.store_model.specs.Worlds.{World, Transaction, OpenedCut, Note, Event, IsLost, fields_of, fresh_world, transaction, is_freed, IsReached, IsHeldBy};
 ghost use Rattle.object_graph.specs.Members.{In};
 ghost use Rattle.store_model.specs.Replies.{Allows, AllowsReply};
 ghost use Rattle.store_model.specs.Steps.{next, after_reply};
 ghost use Rattle.store_model.specs.Histories.{after, IsLegal};
 ghost use Rattle.store_model.specs.Worlds.{IsOutOfReach};
-ghost use Rattle.store_model.specs.Lawful.{IsOrderly, IsLawful, generations_at};
+ghost use Rattle.store_model.specs.Lawful.{IsOrderly, IsLawful, HaveFields, generations_at};
+ghost use Rattle.store_model.specs.FromImages.{world_of, AreImages};
 
 /// The world of a fresh store is lawful.
 pub fn fresh_worlds_are_lawful()
@@ -65,4 +67,13 @@ pub fn what_is_freed_is_out_of_reach()
 /// Where the end of a cut is answered as done, all that was out of reach as it opened is freed.
 pub fn an_ended_cut_has_freed_all_that_was_lost()
     ensures { (w : World) (cut : OpenedCut) (note : Note) (name : NameParts) → IsLawful w → w.cut ≡ Some cut → AllowsReply w EndCut note Done → IsLost cut.opening name → IsTrue (is_freed w name) }
+{}
+
+/// Each object has as many references as an object of its page: in a fresh store, in one that is
+/// opened from images, and after each event.
+pub fn objects_have_their_fields()
+    ensures fresh { (pages : ℕ) → HaveFields (fields_of (fresh_world pages)) (fresh_world pages).graph }
+    ensures opened { (open_limit commits : ℕ) (images : List (List SlotParts)) → AreImages images
+        → HaveFields (fields_of (world_of open_limit commits images)) (world_of open_limit commits images).graph }
+    ensures kept { (w : World) (events : List Event) → HaveFields (fields_of w) w.graph → HaveFields (fields_of (after w events)) (after w events).graph }
 {}

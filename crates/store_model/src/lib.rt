@@ -4,6 +4,7 @@
 #![tactic(auto)]
 
 mod examples;
+mod from_images;
 mod histories;
 mod lawful;
 mod limits;
@@ -19,6 +20,11 @@ pub use examples::{
     phases_come_in_order, refusals_come_in_order, refusals_keep_their_order,
     what_is_born_in_a_cut_outlives_it,
 };
+pub use from_images::{
+    a_fresh_store_opens_to_the_fresh_world, a_small_store_opens,
+    lawful_worlds_show_images_of_a_store, objects_in_use_are_those_of_the_slots,
+    opened_world_has_what_its_images_have, opened_world_is_lawful, opened_world_shows_its_images,
+};
 pub use histories::{
     histories_in_two_parts, is_refused, one_more_event, present_marks_are_of_no_other_cut,
 };
@@ -26,8 +32,8 @@ pub use lawful::{
     a_commit_reaches_own_objects_alone, a_new_name_is_new,
     an_ended_cut_has_freed_all_that_was_lost, each_event_keeps_the_world_lawful,
     fresh_worlds_are_lawful, histories_keep_the_world_lawful, names_count_up,
-    what_a_transaction_holds_is_reached_or_its_own, what_is_freed_is_out_of_reach,
-    what_is_out_of_reach_stays_so,
+    objects_have_their_fields, what_a_transaction_holds_is_reached_or_its_own,
+    what_is_freed_is_out_of_reach, what_is_out_of_reach_stays_so,
 };
 pub use limits::{last_generation, most_counted, most_known, most_open, most_written};
 pub use steps::{

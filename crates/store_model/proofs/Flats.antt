@@ -1,5 +1,6 @@
 -- Elements of lists that are joined, and of the objects in an image.
 use Rattle.std.proofs.Common.{◌≡◌, ℕ, zero, suc, ◌<◌, ◌-◌, Bool, true, false, cond, List, [], ◌∷◌, ◌++◌, map, length, get_or, refl, sym, subst, ap, ◌∙◌, ◌⊎◌, inl, inr, arith, length-append}
+use Rattle.std.specs.List.{flat_map}
 use Rattle.std.proofs.lemmas.Bool.{cases_lt}
 use Rattle.std.proofs.lemmas.List.{get_or_append_left, get_or-append_right, get_or-map, length-map}
 use Rattle.object_graph.specs.SlotParts.{SlotParts}
@@ -8,20 +9,20 @@ use Rattle.object_graph.specs.Slots.{below}
 use Rattle.store_model.proofs.Lists.{in_below}
 use Rattle.object_graph.proofs.Members.{In, in_append, append_left, append_right}
 use Rattle.store_model.proofs.Cuts.{below_bound}
-use Rattle.cut_model.specs.Images.{flat, no_slot, object_in, objects_in, objects_of}
+use Rattle.store_model.specs.Images.{no_slot, object_in, objects_in, objects_of}
 
-pub in_flat : {A B : Type 0} (f : A → List B) (xs : List A) (y : B) → In y (flat f xs) → (x : A) × In x xs × In y (f x)
+pub in_flat : {A B : Type 0} (f : A → List B) (xs : List A) (y : B) → In y (flat_map f xs) → (x : A) × In x xs × In y (f x)
 in_flat f [] y m = absurd m
-in_flat f (x ∷ xs) y m = elim (in_append (f x) (flat f xs) y m) [
+in_flat f (x ∷ xs) y m = elim (in_append (f x) (flat_map f xs) y m) [
   | inl a ↦ (x, inl refl, a)
   | inr b ↦ let r = in_flat f xs y b in (r.0, inr r.1, r.2)
 ]
 
-pub flat_in : {A B : Type 0} (f : A → List B) (xs : List A) (x : A) (y : B) → In x xs → In y (f x) → In y (flat f xs)
+pub flat_in : {A B : Type 0} (f : A → List B) (xs : List A) (x : A) (y : B) → In x xs → In y (f x) → In y (flat_map f xs)
 flat_in f [] x y m n = absurd m
 flat_in f (z ∷ zs) x y m n = elim m [
-  | inl e ↦ append_left (f z) (flat f zs) y (subst (λ k. In y (f k)) e n)
-  | inr r ↦ append_right (f z) (flat f zs) y (flat_in f zs x y r n)
+  | inl e ↦ append_left (f z) (flat_map f zs) y (subst (λ k. In y (f k)) e n)
+  | inr r ↦ append_right (f z) (flat_map f zs) y (flat_in f zs x y r n)
 ]
 
 pub length_below : (n : ℕ) → length (below n) ≡ n

@@ -8,16 +8,14 @@ use Rattle.object_graph.specs.SlotParts.{SlotParts}
 use Rattle.object_graph.specs.declared.names.Object.{Object}
 use Rattle.object_graph.specs.Graphs.{is_at, objects_at}
 use Rattle.object_graph.specs.Slots.{below}
-use Rattle.store_model.specs.Images.{slot_with, shown_slot}
+use Rattle.store_model.specs.Images.{no_slot, object_in, objects_of, unfreed_at, slot_with, shown_slot, shown_of}
 use Rattle.store_model.specs.Lawful.{CountsUp, OnlyLastUnfreed}
 use Rattle.object_graph.proofs.Members.{In, in_append, in_filter, filter_in, in_map, map_in, each_in}
 use Rattle.object_graph.proofs.Paths.{name_of}
 use Rattle.store_model.proofs.Cuts.{below_bound}
 use Rattle.store_model.specs.Worlds.{is_unfreed}
-use Rattle.store_model.specs.Images.{shown_of}
-use Rattle.cut_model.specs.States.{unfreed_at, generation_with, generation_at}
-use Rattle.cut_model.specs.Images.{no_slot, object_in, objects_of}
-use Rattle.cut_model.proofs.Flats.{IsInSlot, in_objects_of, objects_of_in, get-map_below, length-map_below}
+use Rattle.store_model.proofs.Places.{generation_of}
+use Rattle.store_model.proofs.Flats.{IsInSlot, in_objects_of, objects_of_in, get-map_below, length-map_below}
 
 -- ---- one object at each place
 
@@ -45,9 +43,6 @@ apart_below (suc n) = subst AreApart (sym (map-append suc (below n) (n ∷ [])))
     let e : suc n ≡ suc a.0 = a.2 in
     omega arith))
 
-abbrev pub generation_of : Object → ℕ
-generation_of o = o.name.generation
-
 one_of : (os : List Object) (a b : Object) → AreApart (map generation_of os) → In a os → In b os → a.name.generation ≡ b.name.generation → a ≡ b
 one_of [] a b h i j e = absurd i
 one_of (o ∷ os) a b h i j e = elim i [
@@ -69,19 +64,21 @@ one_of (o ∷ os) a b h i j e = elim i [
 abbrev pub OneEach : List Object → List NameParts → Type 0
 OneEach graph freed = (page slot : ℕ) (a b : Object) → In a (unfreed_at graph freed page slot) → In b (unfreed_at graph freed page slot) → a ≡ b
 
+-- an unfreed object is the last of its place
+pub last_at : (graph : List Object) (freed : List NameParts) (page slot : ℕ) (o : Object) → OnlyLastUnfreed graph freed → In o (unfreed_at graph freed page slot)
+    → o.name.generation ≡ length (objects_at graph page slot)
+last_at graph freed page slot o last m =
+    let a = in_filter (is_unfreed freed) (objects_at graph page slot) o m in
+    let g = in_filter (λ (o : Object). is_at page slot o.name) graph o a.0 in
+    let at = and_parts (o.name.page == page) (o.name.slot == slot) g.1 in
+    let e = each_in (λ (o : Object). o.name.generation ≡ length (objects_at graph o.name.page o.name.slot)) (filter (is_unfreed freed) graph) o last (filter_in (is_unfreed freed) graph o g.0 a.1) in
+    e ∙ (ap (λ p. length (objects_at graph p o.name.slot)) (eqb-true o.name.page page at.0) ∙ ap (λ s. length (objects_at graph page s)) (eqb-true o.name.slot slot at.1))
+
 pub one_each : (graph : List Object) (freed : List NameParts) → CountsUp graph → OnlyLastUnfreed graph freed → OneEach graph freed
 one_each graph freed counts last = λ page slot a b i j.
-    let p = in_filter (is_unfreed freed) (objects_at graph page slot) a i in
-    let q = in_filter (is_unfreed freed) (objects_at graph page slot) b j in
-    one_of (objects_at graph page slot) a b (subst AreApart (sym (counts page slot)) (apart_below (length (objects_at graph page slot)))) p.0 q.0
-    (last_at page slot a p.0 p.1 ∙ sym (last_at page slot b q.0 q.1))
-  where
-    last_at : (page slot : ℕ) (o : Object) → In o (objects_at graph page slot) → is_unfreed freed o ≡ true → o.name.generation ≡ length (objects_at graph page slot)
-    last_at page slot o m u =
-        let g = in_filter (λ (o : Object). is_at page slot o.name) graph o m in
-        let at = and_parts (o.name.page == page) (o.name.slot == slot) g.1 in
-        let e = each_in (λ (o : Object). o.name.generation ≡ length (objects_at graph o.name.page o.name.slot)) (filter (is_unfreed freed) graph) o last (filter_in (is_unfreed freed) graph o g.0 u) in
-        e ∙ (ap (λ p. length (objects_at graph p o.name.slot)) (eqb-true o.name.page page at.0) ∙ ap (λ s. length (objects_at graph page s)) (eqb-true o.name.slot slot at.1))
+    one_of (objects_at graph page slot) a b (subst AreApart (sym (counts page slot)) (apart_below (length (objects_at graph page slot))))
+    (in_filter (is_unfreed freed) (objects_at graph page slot) a i).0 (in_filter (is_unfreed freed) (objects_at graph page slot) b j).0
+    (last_at graph freed page slot a last i ∙ sym (last_at graph freed page slot b last j))
 
 -- ---- what is shown
 
@@ -96,7 +93,8 @@ pub record IsShown (graph : List Object) (freed : List NameParts) (page : ℕ) (
   pub there : In o graph
   pub unfreed : is_unfreed freed o ≡ true
   pub on : o.name.page ≡ page
-  pub generation : o.name.generation ≡ generation_at graph freed o.name.page o.name.slot
+  pub others : List Object
+  pub first : unfreed_at graph freed o.name.page o.name.slot ≡ o ∷ others
 
 slot_shows : (fields : ℕ) (graph : List Object) (freed : List NameParts) (page slot : ℕ) (os : List Object) (o : Object)
     → os ≡ unfreed_at graph freed page slot → (slot_with fields os (length (objects_at graph page slot))).in_use ≡ true
@@ -112,12 +110,12 @@ slot_shows fields graph freed page slot (h ∷ hs) o e u is =
     let n : name_of page slot h.name.generation ≡ h.name =
     ap (λ k. name_of k slot h.name.generation) (sym a) ∙ ap (λ k. name_of h.name.page k h.name.generation) (sym b) in
     let same : o ≡ h = is ∙ ap (λ (n : NameParts). let x : Object = record { name = n; number = h.number; refs = h.refs } in x) n in
-    let gen : h.name.generation ≡ generation_at graph freed page slot = ap (λ os. generation_with os (length (objects_at graph page slot))) e in
     let shown : IsShown graph freed page h = record {
       there = g.0;
       unfreed = p.1;
       on = a;
-      generation = gen ∙ (ap (λ k. generation_at graph freed k slot) (sym a) ∙ ap (λ k. generation_at graph freed h.name.page k) (sym b));
+      others = hs;
+      first = ap (λ k. unfreed_at graph freed k h.name.slot) a ∙ (ap (λ k. unfreed_at graph freed page k) b ∙ sym e);
     } in
     subst (IsShown graph freed page) (sym same) shown
 
