@@ -1,5 +1,6 @@
 pub mod KnownNumbers
 pub mod Written
+pub mod Begins
 pub mod Entries
 pub mod FramesSeen
 pub mod FreeSlots
