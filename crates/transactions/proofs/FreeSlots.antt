@@ -12,13 +12,13 @@ use Rattle.object_graph.specs.declared.names.Object.{Object}
 use Rattle.object_graph.specs.Graphs.{is_at, objects_at, has_name}
 use Rattle.object_graph.specs.Slots.{below}
 use Rattle.store_model.specs.Worlds.{World, Transaction, view, with_writes, new_object, starts, is_freed, is_unfreed, slots_of, fields_of, find_transaction, transaction}
-use Rattle.store_model.specs.Images.{shown_slot, slot_with}
+use Rattle.store_model.specs.Images.{unfreed_at, shown_slot, slot_with}
 use Rattle.page_image.specs.Slots.{has_room}
 use Rattle.store_model.specs.Causes.{is_occupied, free_slot, name_at, new_name}
 use Rattle.store_model.specs.Lawful.{IsLawfulTransaction, IsLawful}
 use Rattle.object_graph.proofs.Members.{In, in_any, any_in, in_filter, filter_in, each_in, or_left, or_right}
 use Rattle.transactions.proofs.Numbers.{transaction_found, found_in_list}
-use Rattle.transactions.proofs.Viewed.{unfreed_at, objects_at-view}
+use Rattle.transactions.proofs.Viewed.{objects_at-view}
 use Rattle.transactions.proofs.Seen.{unfreed_at-view, nothing_unfreed, own_unfreed}
 
 -- the first number below n that passes

@@ -10,7 +10,6 @@ pub mod Made
 pub mod Numbers
 pub mod Opened
 pub mod PagesChanged
-pub mod References
 pub mod Refusals
 pub mod Seen
 pub mod Shown

@@ -10,7 +10,7 @@ use Rattle.object_graph.specs.Names.{name_eq}
 use Rattle.object_graph.specs.declared.names.Object.{Object}
 use Rattle.object_graph.specs.Graphs.{is_at, objects_at, has_name, has_object}
 use Rattle.store_model.specs.Worlds.{World, Transaction, Write, link, assign, view, with_writes, written_by, new_object, starts, is_freed, is_unfreed, slots_of, fields_of, find_transaction, transaction}
-use Rattle.store_model.specs.Images.{shown_slot, shown_of, shown_in, slot_with}
+use Rattle.store_model.specs.Images.{unfreed_at, shown_slot, shown_of, shown_in, slot_with}
 use Rattle.page_image.specs.Slots.{has_room, taken}
 use Rattle.store_model.specs.Causes.{is_occupied, name_at, has_page}
 use Rattle.store_model.specs.Steps.{makes}
@@ -19,7 +19,7 @@ use Rattle.object_graph.proofs.Members.{In, in_any, in_filter, filter_in, each_i
 use Rattle.transactions.proofs.Numbers.{transaction_found, found_in_list}
 use Rattle.object_graph.proofs.Paths.{name_eq_same, name_eq_refl, has_name_in}
 use Rattle.transactions.proofs.Shown.{same_shown, set-shown, get-shown}
-use Rattle.transactions.proofs.Viewed.{unfreed_at, objects_at-view, shown_from_place, written_name, written_by_other}
+use Rattle.transactions.proofs.Viewed.{objects_at-view, shown_from_place, written_name, written_by_other}
 use Rattle.store_model.proofs.Cuts.{next_name_is_new}
 use Rattle.transactions.proofs.Seen.{unfreed_at-view, nothing_in, own_or_there}
 use Rattle.transactions.proofs.FreeSlots.{taken_as_free}

@@ -12,15 +12,17 @@ use Rattle.object_graph.specs.Names.{name_eq}
 use Rattle.object_graph.specs.declared.names.Object.{Object}
 use Rattle.object_graph.specs.Graphs.{is_at, objects_at, has_name, has_object, object_named, IsReachedFrom}
 use Rattle.object_graph.specs.Slots.{below}
-use Rattle.store_model.specs.Worlds.{World, Transaction, Write, link, assign, view, with_writes, written_by, new_object, starts, is_unfreed, IsHeldBy, IsOutOfReach}
+use Rattle.store_model.specs.Worlds.{World, Transaction, Write, link, assign, view, with_writes, written_by, new_object, starts, fields_of, is_unfreed, IsHeldBy, IsOutOfReach}
 use Rattle.store_model.specs.Causes.{has_page, name_at}
-use Rattle.store_model.specs.Lawful.{IsKnownWrite, IsOwn, IsLawfulTransaction, CountsUp, OnlyLastUnfreed, generations_at, IsLawful, IsCovered, IsCoveredPath}
+use Rattle.store_model.specs.Lawful.{HaveFields, IsKnownWrite, IsOwn, IsLawfulTransaction, CountsUp, OnlyLastUnfreed, generations_at, IsLawful, IsCovered, IsCoveredPath}
 use Rattle.object_graph.proofs.Members.{In, in_filter, filter_in, each_in, in_map, map_in, in_append, append_left, append_right, in_any}
 use Rattle.store_model.proofs.Reach.{name-with_writes, name-written_by}
 use Rattle.object_graph.proofs.Paths.{name_eq_same, name_eq_refl, has_name_in, in_has_name, has_object_in}
 use Rattle.store_model.proofs.Locks.{name_in_view}
 use Rattle.store_model.proofs.Cuts.{next_name_is_new}
-use Rattle.transactions.proofs.Viewed.{unfreed_at, filter-map_kept, objects_at-view, place_of}
+use Rattle.store_model.proofs.Fields.{view_has_fields}
+use Rattle.store_model.specs.Images.{unfreed_at}
+use Rattle.transactions.proofs.Viewed.{filter-map_kept, objects_at-view, place_of}
 
 -- ---- at most one unfreed object at a place
 
@@ -229,3 +231,10 @@ object_found w t name there free =
   where
     named : Object → Bool
     named o = name_eq o.name name
+
+-- and it has the references of its page
+pub there_fields : (w : World) (t : Transaction) (name : NameParts) (there : IsThere w t name) → HaveFields (fields_of w) w.graph → length there.object.refs ≡ fields_of w there.object.name.page
+there_fields w t name there h =
+    let a = in_filter (is_unfreed w.freed) (objects_at (view w t) name.page name.slot) there.object (subst (λ os. In there.object os) (sym there.alone) (inl refl)) in
+    let b = in_filter (λ (o : Object). is_at name.page name.slot o.name) (view w t) there.object a.0 in
+    each_in (λ (o : Object). length o.refs ≡ fields_of w o.name.page) (view w t) there.object (view_has_fields w t h) b.0

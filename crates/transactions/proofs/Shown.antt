@@ -8,61 +8,34 @@ use Rattle.object_graph.specs.SlotParts.{SlotParts}
 use Rattle.object_graph.specs.declared.names.Object.{Object}
 use Rattle.object_graph.specs.Slots.{below}
 use Rattle.store_model.specs.Images.{shown_slot, shown_of}
-
--- ---- lists over the numbers below n
-
-pub length-below : (n : ℕ) → length (below n) ≡ n
-length-below zero = refl
-length-below (suc n) = length-append (below n) (n ∷ []) ∙ (let e = length-below n in omega arith)
-
-pub get_or-below : (n k d : ℕ) → k < n → get_or (below n) k d ≡ k
-get_or-below zero k d h = absurd (omega arith)
-get_or-below (suc n) k d h = elim (cases_eq k n) [
-  | inl e ↦
-      let l : k ≡ length (below n) = e ∙ sym (length-below n) in
-      ap (λ i. get_or (below n ++ n ∷ []) i d) l ∙ (get_or-append_seam (below n) n [] d ∙ sym e)
-  | inr ne ↦
-      let l = length-below n in
-      let lt : k < n = omega arith in
-      let inside : k < length (below n) = omega arith in
-      get_or_append_left (below n) (n ∷ []) d k inside ∙ get_or-below n k d lt
-]
-
-get_or-over : {A : Type 0} (f : ℕ → A) (n k : ℕ) (d : A) → k < n → get_or (map f (below n)) k d ≡ f k
-get_or-over f n k d h =
-    let l = length-below n in
-    let inside : k < length (below n) = omega arith in
-    get_or-map f (below n) k 0 d inside ∙ ap f (get_or-below n k 0 h)
-
-length-over : {A : Type 0} (f : ℕ → A) (n : ℕ) → length (map f (below n)) ≡ n
-length-over f n = length-map (below n) f ∙ length-below n
+use Rattle.store_model.proofs.Flats.{length-map_below, get-map_below}
 
 -- one place changes
 set-over : {A : Type 0} (f g : ℕ → A) (n k : ℕ) (x : A) → k < n → g k ≡ x → ((j : ℕ) → j < n → j ≢ k → g j ≡ f j)
     → set (map f (below n)) k x ≡ map g (below n)
 set-over f g n k x h is others =
     same_lists (set (map f (below n)) k x) (map g (below n))
-    (length-set (map f (below n)) k x ∙ (length-over f n ∙ sym (length-over g n)))
+    (length-set (map f (below n)) k x ∙ (length-map_below f n ∙ sym (length-map_below g n)))
     (λ j d lt.
         let l1 = length-set (map f (below n)) k x in
-        let l2 = length-over f n in
+        let l2 = length-map_below f n in
         let below_n : j < n = omega arith in
         let inside : k < length (map f (below n)) = omega arith in
         elim (cases_eq j k) [
-          | inl e ↦ ap (λ i. get_or (set (map f (below n)) k x) i d) e ∙ (get_or-set_same (map f (below n)) k x d inside ∙ (sym is ∙ (ap g (sym e) ∙ sym (get_or-over g n j d below_n))))
-          | inr ne ↦ get_or-set_other (map f (below n)) k j x d ne ∙ (get_or-over f n j d below_n ∙ (sym (others j below_n ne) ∙ sym (get_or-over g n j d below_n)))
+          | inl e ↦ ap (λ i. get_or (set (map f (below n)) k x) i d) e ∙ (get_or-set_same (map f (below n)) k x d inside ∙ (sym is ∙ (ap g (sym e) ∙ sym (get-map_below g n j d below_n))))
+          | inr ne ↦ get_or-set_other (map f (below n)) k j x d ne ∙ (get-map_below f n j d below_n ∙ (sym (others j below_n ne) ∙ sym (get-map_below g n j d below_n)))
         ])
 
 -- ---- the image
 
 pub length-shown : (slots fields : ℕ) (graph : List Object) (freed : List NameParts) (page : ℕ) → length (shown_of slots fields graph freed page) ≡ slots
 unfolding shown_of
-length-shown slots fields graph freed page = length-over (shown_slot fields graph freed page) slots
+length-shown slots fields graph freed page = length-map_below (shown_slot fields graph freed page) slots
 
 pub get-shown : (slots fields : ℕ) (graph : List Object) (freed : List NameParts) (page slot : ℕ) (d : SlotParts) → slot < slots
     → get_or (shown_of slots fields graph freed page) slot d ≡ shown_slot fields graph freed page slot
 unfolding shown_of
-get-shown slots fields graph freed page slot d lt = get_or-over (shown_slot fields graph freed page) slots slot d lt
+get-shown slots fields graph freed page slot d lt = get-map_below (shown_slot fields graph freed page) slots slot d lt
 
 -- an image that has these slots
 pub shown_from : (slots fields : ℕ) (graph : List Object) (freed : List NameParts) (page : ℕ) (image : List SlotParts) → length image ≡ slots

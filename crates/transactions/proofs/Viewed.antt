@@ -12,17 +12,13 @@ use Rattle.object_graph.specs.declared.names.Object.{Object}
 use Rattle.object_graph.specs.Graphs.{is_at, objects_at, has_name, has_object, object_named}
 use Rattle.object_graph.specs.Slots.{below}
 use Rattle.store_model.specs.Worlds.{World, Transaction, Write, link, assign, view, with_writes, written_by, new_object, is_unfreed}
-use Rattle.store_model.specs.Images.{shown_slot, slot_with}
+use Rattle.store_model.specs.Images.{unfreed_at, shown_slot, slot_with}
 use Rattle.store_model.specs.Causes.{has_page, name_at}
 use Rattle.store_model.specs.Lawful.{IsKnownWrite, IsOwn, IsLawfulTransaction, CountsUp}
 use Rattle.object_graph.proofs.Members.{In, in_filter, filter_in, each_in, in_map, map_in}
 use Rattle.store_model.proofs.Places.{objects_at-map, map_of_map}
 use Rattle.store_model.proofs.Reach.{name-with_writes, name-written_by}
 use Rattle.object_graph.proofs.Paths.{name_eq_same, name_eq_refl}
-
--- the unfreed objects at a place
-abbrev pub unfreed_at : List Object → List NameParts → ℕ → ℕ → List Object
-unfreed_at graph freed page slot = filter (is_unfreed freed) (objects_at graph page slot)
 
 -- a change that keeps names keeps what is at a place
 pub filter-map_kept : {A : Type 0} (p : A → Bool) (f : A → A) → ((x : A) → p (f x) ≡ p x) → (xs : List A) → filter p (map f xs) ≡ map f (filter p xs)

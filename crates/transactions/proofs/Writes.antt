@@ -18,14 +18,14 @@ use Rattle.page_locks.specs.Holding.{is_in_way, IsNobody, IsLeast, AddsExclusive
 use Rattle.transactions.specs.Tables.{OpenParts, is_wide, knows_target, HaveSameNames, ChangesEntry, NotesPage}
 use Rattle.transactions.specs.Standing.{TransactionsParts, image_in, wrote, IsEntry, AreFramesOf, Stands}
 use Rattle.transactions.proofs.Viewed.{written_name}
+use Rattle.transactions.proofs.Seen.{there_fields}
 use Rattle.transactions.proofs.Shown.{length-shown}
 use Rattle.transactions.proofs.Images.{slot_of_known, number_on_page, ref_on_page, write_on_another_page}
 use Rattle.transactions.proofs.Entries.{table_changes, same_pages, same_with_page}
 use Rattle.transactions.proofs.LocksHeld.{locks_exclude}
 use Rattle.transactions.proofs.FramesSeen.{sees, frames_change}
 use Rattle.transactions.proofs.Opened.{IsOpened, open_lawful, known_there, known_placed}
-use Rattle.transactions.proofs.References.{there_whole}
-use Rattle.transactions.proofs.Refusals.{is_open, is_known, is_known_target, may_write, is_busy_to_write, wide_by, nobody_wrote}
+use Rattle.transactions.proofs.Refusals.{is_open, is_known, is_known_target, is_field, may_write, is_busy_to_write, wide_by, nobody_wrote}
 
 -- ---- what is known before
 
@@ -64,7 +64,7 @@ known_slot s w to_write txn e name page slot o known page_is slot_is nobody =
     (subst (λ i. IsSlotOf i name.slot) (sym image) (record {
       within = let n : length (shown_in w (view w o.of) name.page) ≡ 20 = length-shown (slots_of w name.page) (fields_of w name.page) (view w o.of) w.freed name.page in let p : name.slot < 20 = placed.1 in omega arith;
       used = ap (λ (x : SlotParts). x.in_use) here;
-      fields = ap (λ (x : SlotParts). length x.refs) here ∙ there_whole w o.of name there o.ready.stands.whole;
+      fields = ap (λ (x : SlotParts). length x.refs) here ∙ there_fields w o.of name there o.ready.stands.fields;
     })))
   where
     image : (frame_at s.frames name.page).current ≡ image_in w (view w o.of) name.page
@@ -82,11 +82,12 @@ put_known s w txn e name value o known =
     is_open s w txn e (stranger w txn name ∷ from_page w txn name) o ∙ is_known s w txn e name (from_page w txn name) o known
 
 pub set_known : (s : TransactionsParts) (w : World) (txn : ℕ) (e : OpenParts) (name : NameParts) (field : ℕ) (target : Option NameParts) → IsOpened s w txn e → has_name e.known name ≡ true
-    → knows_target e.known target ≡ true → first_refusal w (Set txn name field target) nothing ≡ first_met (bad_field w name field ∷ from_page w txn name)
-set_known s w txn e name field target o known known_target =
+    → knows_target e.known target ≡ true → field < 4 → first_refusal w (Set txn name field target) nothing ≡ first_met (from_page w txn name)
+set_known s w txn e name field target o known known_target low =
     is_open s w txn e (stranger w txn name ∷ strange_target w txn target ∷ bad_field w name field ∷ from_page w txn name) o
     ∙ (is_known s w txn e name (strange_target w txn target ∷ bad_field w name field ∷ from_page w txn name) o known
-    ∙ is_known_target s w txn e target (bad_field w name field ∷ from_page w txn name) o known_target)
+    ∙ (is_known_target s w txn e target (bad_field w name field ∷ from_page w txn name) o known_target
+    ∙ is_field w name field (from_page w txn name) low))
 
 pub write_busy : (s : TransactionsParts) (w : World) (txn : ℕ) (e : OpenParts) (name : NameParts) (page holder : ℕ) → IsOpened s w txn e → page ≡ name.page
     → IsLeast (is_in_way true s.locks.held txn page) holder → first_met (from_page w txn name) ≡ Some (Busy holder)
@@ -139,7 +140,7 @@ stands_here : (s new : TransactionsParts) (w : World) (txn : ℕ) (e : OpenParts
     → Stands new (with_transaction w txn (writes write (written_name write).page))
 stands_here s new w txn e write o known run = record {
   limit = o.ready.stands.limit;
-  whole = o.ready.stands.whole;
+  fields = o.ready.stands.fields;
   table = table_changes w s.table new.table txn e o.of (NotesPage page) change o.ready.stands.table o.is o.found (λ t. refl) run.noted (λ f h. entry_writes e f o.of write page o.entry h);
   locks = locks_exclude w s.locks new.locks txn page change o.of o.ready.stands.locks o.found (λ t. refl) refl refl run.pages run.locked;
   frames = subst (AreFramesOf (with_transaction w txn change)) (sym run.frames)

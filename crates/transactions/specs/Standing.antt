@@ -1,12 +1,11 @@
 -- Which world the open transactions stand for.
 use Rattle.std.specs.Prelude.{◌≡◌, ℕ, ◌<◌, Bool, true, false, Option, Some, None, List, map, reverse, length, IsTrue}
-use Rattle.std.specs.List.{AllByRecursion}
 use Rattle.std.specs.Map.{keys_of}
 use Rattle.object_graph.specs.declared.names.Object.{Object}
 use Rattle.store_model.specs.Worlds.{World, Transaction, fields_of, find_transaction, transaction, view}
 use Rattle.store_model.specs.Causes.{has_page}
 use Rattle.store_model.specs.Images.{shown_in}
-use Rattle.store_model.specs.Lawful.{IsLawful}
+use Rattle.store_model.specs.Lawful.{HaveFields, IsLawful}
 use Rattle.page_image.specs.Pages.{PageParts}
 use Rattle.page_buffer.specs.Frames.{clean_frame, frame_at}
 use Rattle.page_buffer.specs.declared.frame.Frame.{Frame}
@@ -68,14 +67,10 @@ pub record AreFramesOf (w : World) (frames : List Frame) : Type 0 where
   pub written : (txn page : ℕ) → IsTrue (wrote w txn page) → page < w.pages
   pub each : (page : ℕ) → page < w.pages → IsFrameOf w page (frame_at frames page)
 
--- each object of the graph has as many references as its page gives it
-abbrev pub AreWhole : World → List Object → Type 0
-AreWhole w graph = AllByRecursion (λ o. length o.refs ≡ fields_of w o.name.page) graph
-
 -- the transactions stand for the world
 pub record Stands (s : TransactionsParts) (w : World) : Type 0 where
   pub limit : w.open_limit ≡ most_open_here
-  pub whole : AreWhole w w.graph
+  pub fields : HaveFields (fields_of w) w.graph
   pub table : IsTable w s.table
   pub locks : AreLocks w s.locks
   pub frames : AreFramesOf w s.frames
