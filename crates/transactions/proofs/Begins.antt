@@ -97,7 +97,7 @@ pub stands_begun : (s : TransactionsParts) (w : World) (txn : ℕ) (locks : Lock
     → Stands (record { table = s.table ++ (txn, fresh_entry) ∷ []; locks = locks; frames = s.frames }) (begun w txn)
 stands_begun s w txn locks h none closed admitted same pages = record {
   limit = h.limit;
-  whole = h.whole;
+  fields = h.fields;
   table = table_begun w s.table txn h.table none;
   locks = locks_begun w s.locks locks txn h.locks closed admitted same pages;
   frames = record {

@@ -3,6 +3,7 @@ pub mod Written
 pub mod Begins
 pub mod Entries
 pub mod FramesSeen
+pub mod FromPages
 pub mod FreeSlots
 pub mod Images
 pub mod LocksHeld
