@@ -11,6 +11,7 @@ pub mod Made
 pub mod Numbers
 pub mod Opened
 pub mod PagesChanged
+pub mod Readings
 pub mod Refusals
 pub mod Seen
 pub mod Shown

@@ -1,13 +1,26 @@
 //! What a transaction reads.
-ghost use Rattle.std.specs.Prelude.{◌≡◌, ◌+◌, ◌≤◌, OnErr};
+ghost use Rattle.std.specs.Prelude.{◌≡◌, ◌+◌, ◌<◌, ◌≤◌, OnErr, length};
 ghost use Rattle.object_graph.specs.declared.calls.Call.TheVariants.{Get, Number};
+ghost use Rattle.page_image.specs.Pages.{object_at};
+ghost use Rattle.page_buffer.specs.Frames.{frame_at};
 ghost use Rattle.transactions.specs.Standing.{IsReadyForSome};
 ghost use Rattle.transactions.specs.Calls.{StepsWell, num_reply, ref_reply};
 
 use crate::transactions::Transactions;
-use object_graph::{Name, Refusal, Steps};
+use object_graph::{Name, Object, Refusal, Steps};
+use page_buffer::Buffer;
 use page_locks::Busy;
 use std::sync::ledger::Ledger;
+
+/// The object of this name in the current image of its page.
+fn object_seen<L: Ledger>(buffer: &Buffer, name: Name, steps: &mut Steps<L>) -> Option<Object>
+    requires { name.page < length buffer.now }
+    ensures object { result ≡ object_at (frame_at buffer.now name.page).current name.slot }
+    ensures step { steps.new ≡ steps.old + 1 }
+{
+    let frame = buffer.frame(name.page(), steps);
+    frame.current.object(name.slot())
+}
 
 impl Transactions {
     /// The reference in a field of an object. The transaction knows its target from then on, and has
@@ -37,7 +50,10 @@ impl Transactions {
         if let Err(Busy { holder }) = self.locks.check_shared(txn, page) {
             return Err(Refusal::Busy { holder });
         }
-        let target = self.reference(name, field, steps);
+        let Some(object) = object_seen(&self.buffer, name, steps) else {
+            unreachable!();
+        };
+        let target = object.refs[field as usize];
         if entry.has_no_room_for(&target) {
             return Err(Refusal::KnowsTooMany);
         }
@@ -70,19 +86,9 @@ impl Transactions {
         if let Err(Busy { holder }) = self.locks.try_shared(txn, page) {
             return Err(Refusal::Busy { holder });
         }
-        let frame = self.buffer.frame(page, steps);
-        let Some(object) = frame.current.object(name.slot()) else {
+        let Some(object) = object_seen(&self.buffer, name, steps) else {
             unreachable!();
         };
         Ok(object.number)
-    }
-
-    /// The reference in a field of an object of the current image.
-    fn reference<L: Ledger>(&self, name: Name, field: u32, steps: &mut Steps<L>) -> Option<Name> {
-        let frame = self.buffer.frame(name.page(), steps);
-        match frame.current.object(name.slot()) {
-            Some(object) => object.refs[field as usize],
-            None => None,
-        }
     }
 }
