@@ -12,6 +12,7 @@ pub mod Numbers
 pub mod Opened
 pub mod PagesChanged
 pub mod Readings
+pub mod Ready
 pub mod Refusals
 pub mod Seen
 pub mod Shown

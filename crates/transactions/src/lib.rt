@@ -3,6 +3,7 @@
 
 mod finishing;
 mod known;
+mod laws;
 mod open;
 mod reading;
 mod table;
@@ -11,4 +12,5 @@ mod tests;
 mod transactions;
 mod writing;
 
+pub use laws::each_call_leaves_them_ready;
 pub use transactions::Transactions;
