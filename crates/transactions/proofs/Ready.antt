@@ -168,9 +168,11 @@ pub ready_finished : (old new : TransactionsParts) (txn : ℕ) → is_some (entr
 ready_finished old new txn is_open some stands =
     let w = early some.0 in
     let ready = early_is_ready old some.0 some.1 in
-    let there = opened_there (entry_of old.table txn) (find_transaction w txn) (ready.stands.table.each txn) is_open in
-    (committed w txn, record {
-      lawful = event_is_lawful w (Commit txn) nothing (Committed 1) ready.lawful (none_met w txn ready.sound refl there, refl);
-      sound = ready.sound;
-      stands = stands w ready;
-    })
+    let there = opened_there (entry_of old.table txn) (find_transaction w txn) (ready.stands.table.each txn) is_open in (
+      committed w txn,
+      record {
+        lawful = event_is_lawful w (Commit txn) nothing (Committed 1) ready.lawful (none_met w txn ready.sound refl there, refl);
+        sound = ready.sound;
+        stands = stands w ready;
+      },
+    )

@@ -1,7 +1,4 @@
-use crate::*;
-use std::test::Fail;
-
-#[test]
-fn nothing(rt: HostRuntime) -> Result<(), Fail> {
-    Ok(())
-}
+//! What no clause says: worked examples, call by call, and the plain graph beside the transactions.
+mod plain;
+mod player;
+mod worked;
