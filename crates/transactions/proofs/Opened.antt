@@ -1,5 +1,5 @@
 -- An open transaction for which the entry in the table was found.
-use Rattle.std.proofs.Common.{◌≡◌, ◌≢◌, ℕ, ◌<◌, Bool, true, false, ◌||◌, ◌==◌, List, [], ◌∷◌, ◌++◌, map, reverse, Option, Some, None, refl, sym, subst, ap, ◌∙◌, inl, inr}
+use Rattle.std.proofs.Common.{◌≡◌, ◌≢◌, ℕ, ◌<◌, Bool, true, false, ◌||◌, ◌==◌, List, [], ◌∷◌, ◌++◌, length, map, reverse, Option, Some, None, refl, sym, subst, ap, ◌∙◌, inl, inr, arith}
 use Rattle.std.specs.List.{list_any, AllByRecursion}
 use Rattle.std.proofs.lemmas.Bool.{cases_Bool, eqb-true, eq-eqb}
 use Rattle.std.proofs.lemmas.List.{reverse-append}
@@ -16,7 +16,7 @@ use Rattle.page_locks.specs.Holding.{is_admitted, numbers}
 use Rattle.page_locks.specs.declared.locks.Held.{Held}
 use Rattle.transactions.specs.Tables.{OpenParts, entry_of}
 use Rattle.transactions.specs.Standing.{TransactionsParts, numbers_of, IsEntry, AreAlike, IsReady}
-use Rattle.transactions.proofs.Numbers.{found_in_list}
+use Rattle.transactions.proofs.Numbers.{found_in_list, transaction_found}
 use Rattle.transactions.proofs.Seen.{IsThere, known_object, own_or_there}
 use Rattle.transactions.proofs.Entries.{alike_some, alike_none}
 
@@ -83,3 +83,11 @@ open_admitted s w txn e o =
     let member : In o.of.number (numbers_of w) = in_reverse (map (λ (t : Transaction). t.number) w.transactions) o.of.number (map_in (λ (t : Transaction). t.number) w.transactions o.of found.0) in
     sym (any-map (λ n. n == txn) (λ h. h.txn) s.locks.held)
     ∙ in_any (λ n. n == txn) (numbers s.locks.held) o.of.number (subst (λ ns. In o.of.number ns) (sym o.ready.stands.locks.admitted) member) found.1
+
+-- ---- the pages noted as written are pages of the store
+
+pub wrote_within : (s : TransactionsParts) (w : World) (txn : ℕ) (e : OpenParts) (page : ℕ) → IsOpened s w txn e → has_page e.written page ≡ true → page < length s.frames
+wrote_within s w txn e page o h =
+    let p = o.ready.stands.frames.written txn page (ap (λ (x : Transaction). has_page x.pages_written page) (transaction_found w txn o.of o.found) ∙ (sym (o.entry.written.each page) ∙ h)) in
+    let n = o.ready.stands.frames.count in
+    omega arith
