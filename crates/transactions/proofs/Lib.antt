@@ -1,3 +1,4 @@
+pub mod Creates
 pub mod Ends
 pub mod Entries
 pub mod FramesSeen

@@ -91,3 +91,9 @@ wrote_within s w txn e page o h =
     let p = o.ready.stands.frames.written txn page (ap (λ (x : Transaction). has_page x.pages_written page) (transaction_found w txn o.of o.found) ∙ (sym (o.entry.written.each page) ∙ h)) in
     let n = o.ready.stands.frames.count in
     omega arith
+
+-- a page below the count of frames is one of the store
+pub page_below : (s : TransactionsParts) (w : World) (page count : ℕ) → IsReady s w → page < count → count ≡ length s.frames → page < w.pages
+page_below s w page count ready low is =
+    let n = ready.stands.frames.count in
+    omega arith
