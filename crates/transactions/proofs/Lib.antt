@@ -14,6 +14,7 @@ pub mod Readings
 pub mod Refusals
 pub mod Seen
 pub mod Shown
+pub mod Sweeping
 pub mod Viewed
 pub mod Writes
 pub mod Written

@@ -139,7 +139,7 @@ unfreed_at-view w t page slot =
 pub at_own_place : (name : NameParts) → is_at name.page name.slot name ≡ true
 at_own_place name = and_from (name.page == name.page) (name.slot == name.slot) (eq-eqb name.page name.page refl) (eq-eqb name.slot name.slot refl)
 
-none_pass : (test : Object → Bool) (xs : List Object) → ((x : Object) → In x xs → test x ≡ false) → filter test xs ≡ []
+pub none_pass : (test : Object → Bool) (xs : List Object) → ((x : Object) → In x xs → test x ≡ false) → filter test xs ≡ []
 none_pass test [] h = refl
 none_pass test (x ∷ xs) h = ap (λ b. cond b (x ∷ filter test xs) (filter test xs)) (h x (inl refl)) ∙ none_pass test xs (λ y i. h y (inr i))
 
