@@ -1,4 +1,4 @@
--- The world that images open to is lawful, and the objects in use are those that the slots name.
+-- The world that images open to has what they have, and is lawful.
 use Rattle.std.proofs.Common.{◌≡◌, ℕ, ◌<◌, Bool, true, false, ◌&&◌, ◌==◌, not, List, [], ◌∷◌, map, length, get_or, Option, Some, None, refl, sym, ◌∙◌, ap, subst, arith, inl, inr}
 use Rattle.std.specs.Bool.{IsTrue}
 use Rattle.std.specs.List.{list_any, filter, AllByRecursion}

@@ -8,7 +8,7 @@ ghost use Rattle.object_graph.specs.Graphs.{has_object, objects_at};
 ghost use Rattle.store_model.specs.Worlds.{World, fields_of, slots_of, fresh_world, is_freed, new_object, unfreed};
 ghost use Rattle.store_model.specs.Limits.{most_open};
 ghost use Rattle.store_model.specs.Images.{shown, all_shown, objects_in};
-ghost use Rattle.store_model.specs.Lawful.{IsLawful, IsPlaced, HaveFields};
+ghost use Rattle.store_model.specs.Lawful.{IsOrderly, IsLawful, IsPlaced, HaveFields};
 ghost use Rattle.store_model.specs.Histories.{IsLegal};
 ghost use Rattle.store_model.specs.ImageExamples as worked;
 ghost use Rattle.store_model.specs.FromImages.{world_of, slot_in, objects_in_use, is_name_in_use, was_given, AreImages, has_root, IsWhole};
@@ -53,14 +53,15 @@ pub fn objects_in_use_are_those_of_the_slots()
     ensures one { (images : List (List SlotParts)) (page slot : ℕ) → objects_at (objects_in_use images) page slot ≡ objects_in page slot (slot_in images page slot) }
 {}
 
-/// A lawful world shows images that a store may have. They tell its unfreed objects, its names and
-/// what is freed. The root is in use, and nothing that is reached refers to what isn't in use.
-pub fn lawful_worlds_show_images_of_a_store()
-    ensures images { (w : World) → IsLawful w → HaveFields (fields_of w) w.graph → AreImages (all_shown w) }
-    ensures in_use { (w : World) (o : Object) → IsLawful w → In o (unfreed w) ↔ In o (objects_in_use (all_shown w)) }
-    ensures names { (w : World) (name : NameParts) → IsLawful w → has_object w.graph name ≡ was_given (all_shown w) name }
-    ensures freed { (w : World) (name : NameParts) → IsLawful w → is_freed w name ≡ (was_given (all_shown w) name && not (is_name_in_use (all_shown w) name)) }
-    ensures root { (w : World) → IsLawful w → IsTrue (has_root (all_shown w)) }
+/// An orderly world shows images that a store may have, with the root in use. They tell its unfreed
+/// objects, its names and what is freed. In a lawful one, where what is freed is out of reach, nothing
+/// that is reached refers to what isn't in use.
+pub fn worlds_show_images_of_a_store()
+    ensures images { (w : World) → IsOrderly w → HaveFields (fields_of w) w.graph → AreImages (all_shown w) }
+    ensures in_use { (w : World) (o : Object) → IsOrderly w → In o (unfreed w) ↔ In o (objects_in_use (all_shown w)) }
+    ensures names { (w : World) (name : NameParts) → IsOrderly w → has_object w.graph name ≡ was_given (all_shown w) name }
+    ensures freed { (w : World) (name : NameParts) → IsOrderly w → is_freed w name ≡ (was_given (all_shown w) name && not (is_name_in_use (all_shown w) name)) }
+    ensures root { (w : World) → IsOrderly w → IsTrue (has_root (all_shown w)) }
     ensures whole { (w : World) → IsLawful w → IsWhole (all_shown w) }
 {}
 

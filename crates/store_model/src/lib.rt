@@ -22,8 +22,8 @@ pub use examples::{
 };
 pub use from_images::{
     a_fresh_store_opens_to_the_fresh_world, a_small_store_opens,
-    lawful_worlds_show_images_of_a_store, objects_in_use_are_those_of_the_slots,
-    opened_world_has_what_its_images_have, opened_world_is_lawful, opened_world_shows_its_images,
+    objects_in_use_are_those_of_the_slots, opened_world_has_what_its_images_have,
+    opened_world_is_lawful, opened_world_shows_its_images, worlds_show_images_of_a_store,
 };
 pub use histories::{
     histories_in_two_parts, is_refused, one_more_event, present_marks_are_of_no_other_cut,

@@ -1,8 +1,10 @@
+pub mod Begins
 pub mod Creates
 pub mod Ends
 pub mod Entries
 pub mod FramesSeen
 pub mod FreeSlots
+pub mod FromPages
 pub mod Images
 pub mod KnownNumbers
 pub mod LocksHeld

@@ -1,6 +1,7 @@
 -- Which world the open transactions stand for.
-use Rattle.std.specs.Prelude.{◌≡◌, ℕ, ◌<◌, Bool, true, false, Option, Some, None, List, map, reverse, length, IsTrue}
+use Rattle.std.specs.Prelude.{◌≡◌, ℕ, ◌<◌, Bool, true, false, Option, Some, None, List, map, reverse, length, slice_get, IsTrue}
 use Rattle.std.specs.Map.{keys_of}
+use Rattle.object_graph.specs.SlotParts.{SlotParts}
 use Rattle.object_graph.specs.declared.names.Object.{Object}
 use Rattle.store_model.specs.Worlds.{World, Transaction, fields_of, find_transaction, transaction, view}
 use Rattle.store_model.specs.Causes.{has_page}
@@ -11,6 +12,14 @@ use Rattle.page_buffer.specs.Frames.{clean_frame, frame_at}
 use Rattle.page_buffer.specs.declared.frame.Frame.{Frame}
 use Rattle.page_locks.specs.Holding.{LockTable, numbers, shares, excludes}
 use Rattle.transactions.specs.Tables.{most_open_here, OpenParts, Entries, entry_of, HaveSamePages, HaveSameNames}
+
+-- the images of pages, as a world shows them
+abbrev pub images_of : List PageParts → List (List SlotParts)
+images_of pages = map (λ p. p.slots) pages
+
+-- each page has the number of its place
+abbrev pub AreNumbered : List PageParts → Type 0
+AreNumbered pages = (page : ℕ) (p : PageParts) → slice_get pages page ≡ Some p → p.number ≡ page
 
 -- what contracts see: the table, the locks and the frames
 pub record TransactionsParts : Type 0 where

@@ -3,11 +3,13 @@ ghost use Rattle.std.specs.Prelude.{◌≡◌, ℕ, ◌+◌, ◌≤◌, ◌<◌,
 ghost use Rattle.object_graph.specs.Slots.{has_slot};
 ghost use Rattle.object_graph.specs.declared.calls.Call.TheVariants.{Begin};
 ghost use Rattle.store_model.specs.Worlds.{World};
+ghost use Rattle.std.specs.List.{AllByRecursion};
+ghost use Rattle.store_model.specs.FromImages.{world_of, has_root, IsWhole};
 ghost use Rattle.store_model.specs.Steps.{swept};
-ghost use Rattle.page_image.specs.Pages.{slot_at};
+ghost use Rattle.page_image.specs.Pages.{IsPage, slot_at};
 ghost use Rattle.page_buffer.specs.Frames.{frame_at, with_frame, freed_frame};
 ghost use Rattle.transactions.specs.Tables.{entry_of, written_at, IsAscending};
-ghost use Rattle.transactions.specs.Standing.{IsReady, IsReadyForSome, Stands};
+ghost use Rattle.transactions.specs.Standing.{images_of, AreNumbered, IsReady, IsReadyForSome, Stands};
 ghost use Rattle.transactions.specs.Calls.{AreOutOfReach, StepsWell, done_reply};
 
 use crate::table::{MOST_OPEN, Table};
@@ -38,11 +40,26 @@ impl Model for Transactions {
     ghost view = { λ t. record { table = t.table; locks = t.locks; frames = t.buffer } };
 }
 
+/// What each page is: it does nothing else.
+fn are_pages(pages: &[Page])
+    ensures { AllByRecursion IsPage pages.now }
+{
+    for page in pages {
+        page.is_page();
+    }
+}
+
 impl Transactions {
-    /// The store of these pages, all committed, without open transactions.
+    /// The store that has just been opened from these pages, page 0 first: what they show is
+    /// committed, and no transaction is open.
     pub fn new(alloc: Global, pages: Vec<Page>) -> Result<Transactions, Memory>
-        requires { length pages.items ≤ 4096 }
+        requires few { length pages.items ≤ 4096 }
+        requires numbered { AreNumbered pages.items }
+        requires root { IsTrue (has_root (images_of pages.items)) }
+        requires whole { IsWhole (images_of pages.items) }
+        ensures ready { IfOk result (λ s. (commits : ℕ) → IsReady s (world_of 64 commits (images_of pages.items))) }
     {
+        are_pages(&pages);
         let table = Table::new(alloc)?;
         let locks = Locks::new(alloc, pages.len() as u32)?;
         match Buffer::new(alloc, pages) {
