@@ -59,7 +59,7 @@ impl Transactions {
         ensures committed { (w : World) → IsReady self.old w → Stands self.new (committed w txn) }
     {
         let Some(entry) = self.table.find(txn) else {
-            return;
+            unreachable!();
         };
         settle_all(&mut self.buffer, entry.written());
         self.locks.release_all(txn);
