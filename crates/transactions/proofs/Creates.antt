@@ -1,5 +1,5 @@
 -- What a call for a new object does.
-use Rattle.std.proofs.Common.{◌≡◌, ◌≢◌, ℕ, ◌+◌, ◌<◌, ◌≤◌, Bool, true, false, List, [], ◌∷◌, length, Option, Some, None, refl, sym, subst, ap, ◌∙◌, arith, nat_le}
+use Rattle.std.proofs.Common.{◌≡◌, ℕ, ◌+◌, ◌<◌, Bool, true, false, List, [], ◌∷◌, length, Option, Some, None, refl, sym, subst, ap, ◌∙◌, arith, nat_le}
 use Rattle.std.specs.Option.{option_map, is_none}
 use Rattle.object_graph.specs.NameParts.{NameParts}
 use Rattle.object_graph.specs.SlotParts.{SlotParts}
@@ -10,14 +10,13 @@ use Rattle.object_graph.specs.declared.calls.Refusal.TheVariants.{Busy, TooWide,
 use Rattle.object_graph.specs.Graphs.{objects_at}
 use Rattle.object_graph.proofs.Paths.{name_of}
 use Rattle.store_model.specs.Worlds.{World, Transaction, nothing, view, slots_of, fields_of}
-use Rattle.store_model.specs.Images.{shown_slot, shown_in}
+use Rattle.store_model.specs.Images.{shown_slot}
 use Rattle.store_model.specs.Causes.{first_met, first_refusal, when, no_page, busy_to_write, too_wide, knows_too_many, page_full, free_slot, name_at, new_name}
 use Rattle.store_model.specs.Replies.{AnswersNew}
 use Rattle.store_model.specs.Steps.{with_page, with_target, with_transaction, with_new, makes}
 use Rattle.page_image.specs.Slots.{fresh_slot, has_room, taken}
 use Rattle.page_image.specs.Pages.{PageParts, slot_at, with_slot, IsFull, IsNextName}
 use Rattle.page_buffer.specs.Frames.{frame_at, with_frame, written}
-use Rattle.page_buffer.specs.declared.frame.Frame.{Frame}
 use Rattle.page_locks.specs.Holding.{is_in_way, IsNobody, IsLeast, AddsExclusive}
 use Rattle.transactions.specs.Tables.{OpenParts, is_wide, HaveSamePages, HaveSameNames, ChangesEntry, NotesPage, NotesTarget}
 use Rattle.transactions.specs.Standing.{TransactionsParts, image_in, IsEntry, AreFramesOf, Stands}
@@ -84,9 +83,9 @@ pub create_full : (s : TransactionsParts) (w : World) (txn : ℕ) (e : OpenParts
 create_full s w txn e page o low nobody narrow spare full =
     let image = seen_image s w txn e page o low nobody in
     let none = none_free w txn o.of page o.ready.lawful o.found (λ slot lt.
-        let count = slots_seen w o.of page (frame_at s.frames page).current image in
-        let within : slot < length (frame_at s.frames page).current.slots = subst (λ n. slot < n) (sym count) lt in
-        sym (ap has_room (slot_seen w o.of page slot (frame_at s.frames page).current image lt)) ∙ full slot within) in
+    let count = slots_seen w o.of page (frame_at s.frames page).current image in
+    let within : slot < length (frame_at s.frames page).current.slots = subst (λ n. slot < n) (sym count) lt in
+    sym (ap has_room (slot_seen w o.of page slot (frame_at s.frames page).current image lt)) ∙ full slot within) in
     to_known s w txn e page false o low nobody narrow spare ∙ ap (λ x. first_met (when (is_none x) (PageFull page) ∷ [])) none
 
 -- ---- the new object
@@ -160,8 +159,8 @@ creates s new w txn e page name o low run =
     let room : has_room (shown_slot (fields_of w page) (view w o.of) w.freed page name.slot) ≡ true = sym (ap has_room (slot_seen w o.of page name.slot now image within)) ∙ run.next.slot.room in
     let free = free_place w txn o.of (fields_of w page) page name.slot o.ready.lawful o.found room in
     let found : free_slot w txn page ≡ Some name.slot =
-        first_free w txn o.of page name.slot o.ready.lawful o.found within room
-        (λ slot lt. let less : slot < slots_of w page = let k = within in omega arith in sym (ap has_room (slot_seen w o.of page slot now image less)) ∙ run.next.slot.least slot lt) in
+    first_free w txn o.of page name.slot o.ready.lawful o.found within room
+    (λ slot lt. let less : slot < slots_of w page = let k = within in omega arith in sym (ap has_room (slot_seen w o.of page slot now image less)) ∙ run.next.slot.least slot lt) in
     let same : name ≡ name_at w.graph page name.slot = next_is w o.of page now name image run.next within (free_generation w o.of page name.slot free) in
     subst (λ n. IsMade w new txn page n) (sym same)
     (made_at s new w txn e page name.slot o low within found free (subst (λ n. HasMade s new txn e page n) same run))

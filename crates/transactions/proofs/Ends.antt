@@ -1,13 +1,11 @@
 -- The end of a transaction.
 use Rattle.std.proofs.Common.{◌≡◌, ◌≢◌, ℕ, ◌<◌, Bool, true, false, not, ◌&&◌, ◌||◌, ◌==◌, cond, List, [], ◌∷◌, ◌++◌, map, reverse, Option, Some, None, refl, sym, subst, ap, ◌∙◌, inl, inr, append-nil, nat_eq}
 use Rattle.std.specs.List.{filter, find}
-use Rattle.std.specs.Map.{keys_of}
 use Rattle.std.specs.Option.{unwrap_or}
 use Rattle.std.proofs.lemmas.Bool.{cases_Bool, cases_eq, eqb-true, eq-eqb, ne_eqb, cond-true, cond-false}
 use Rattle.std.proofs.lemmas.List.{reverse-append}
 use Rattle.std.proofs.lemmas.List.Elements.{filter-append}
 use Rattle.std.proofs.lemmas.Map.Entries.{lookup-filter-keys}
-use Rattle.object_graph.specs.NameParts.{NameParts}
 use Rattle.object_graph.specs.declared.names.Object.{Object}
 use Rattle.store_model.specs.Worlds.{World, Transaction, find_transaction, transaction, fresh_transaction, view, starts, slots_of, fields_of, with_writes, new_object}
 use Rattle.store_model.specs.Causes.{has_page}
@@ -133,8 +131,8 @@ locks_without w w2 old new txn is same_pages h pages gone = record {
 still_wrote : (w w2 : World) (txn u page : ℕ) → w2.transactions ≡ without w txn → wrote w2 u page ≡ true → (u ≢ txn) × (wrote w u page ≡ true)
 still_wrote w w2 txn u page is e =
     let ne : u ≢ txn = λ same.
-        let z : wrote w2 u page ≡ false = ap (λ v. wrote w2 v page) same ∙ ap (λ (x : Transaction). has_page x.pages_written page) (gone_now w w2 txn is) in
-        let y : true ≡ false = sym e ∙ z in cc in
+    let z : wrote w2 u page ≡ false = ap (λ v. wrote w2 v page) same ∙ ap (λ (x : Transaction). has_page x.pages_written page) (gone_now w w2 txn is) in
+    let y : true ≡ false = sym e ∙ z in cc in
     (ne, ap (λ (x : Transaction). has_page x.pages_written page) (sym (stays_now w w2 txn u is ne)) ∙ e)
 
 -- nobody else wrote a page that the transaction wrote
@@ -151,7 +149,7 @@ wrote_alone w txn u page t lawful found mine ne theirs = by (find_transaction w 
         let their : has_page x.pages_written page ≡ true = ap (λ (t : Transaction). has_page t.pages_written page) (sym (transaction_found w u x e)) ∙ theirs in
         let used : (has_page x.pages_read page || has_page x.pages_written page) ≡ true = ap (λ b. has_page x.pages_read page || b) their ∙ or_true (has_page x.pages_read page) in
         let z : has_page t.pages_written page ≡ false =
-            apart_at w.transactions t x lawful.orderly.apart a.0 b.0 (λ f. ne (sym (eqb-true x.number u b.1) ∙ (f ∙ eqb-true t.number txn a.1))) page used in
+        apart_at w.transactions t x lawful.orderly.apart a.0 b.0 (λ f. ne (sym (eqb-true x.number u b.1) ∙ (f ∙ eqb-true t.number txn a.1))) page used in
         let y : true ≡ false = sym mine ∙ z in cc
 
 -- what the end makes of the images
@@ -171,7 +169,7 @@ frames_end w w2 frames new txn t pages change lawful found same_pages is noted h
       let low : p < w.pages = subst (λ n. p < n) same_pages below_n in
       let before : IsFrameOf w p (frame_at frames p) = h.each p low in
       let frame : frame_at new p ≡ cond (has_page t.pages_written p) (change (frame_at frames p)) (frame_at frames p) =
-          run.frames p ∙ ap (λ b. cond b (change (frame_at frames p)) (frame_at frames p)) (noted p) in
+      run.frames p ∙ ap (λ b. cond b (change (frame_at frames p)) (frame_at frames p)) (noted p) in
       elim (cases_Bool (has_page t.pages_written p)) [
         | inl mine ↦
             subst (IsFrameOf w2 p) (sym (frame ∙ cond-true (has_page t.pages_written p) (change (frame_at frames p)) (frame_at frames p) mine)) (record {

@@ -1,7 +1,6 @@
 -- An open transaction for which the entry in the table was found.
-use Rattle.std.proofs.Common.{◌≡◌, ◌≢◌, ℕ, ◌<◌, Bool, true, false, ◌||◌, ◌==◌, List, [], ◌∷◌, ◌++◌, length, map, reverse, Option, Some, None, refl, sym, subst, ap, ◌∙◌, inl, inr, arith}
-use Rattle.std.specs.List.{list_any, AllByRecursion}
-use Rattle.std.proofs.lemmas.Bool.{cases_Bool, eqb-true, eq-eqb}
+use Rattle.std.proofs.Common.{◌≡◌, ℕ, ◌<◌, Bool, true, ◌||◌, ◌==◌, List, [], ◌∷◌, ◌++◌, length, map, reverse, Some, None, refl, sym, subst, ap, ◌∙◌, inl, inr, arith}
+use Rattle.std.specs.List.{list_any}
 use Rattle.std.proofs.lemmas.List.{reverse-append}
 use Rattle.object_graph.specs.NameParts.{NameParts}
 use Rattle.object_graph.specs.declared.names.Object.{Object}
@@ -10,7 +9,7 @@ use Rattle.object_graph.proofs.Members.{In, in_any, each_in, map_in, append_left
 use Rattle.object_graph.proofs.Paths.{has_name_in, has_object_in}
 use Rattle.store_model.specs.Worlds.{World, Transaction, find_transaction, view, starts}
 use Rattle.store_model.specs.Causes.{has_page}
-use Rattle.store_model.specs.Lawful.{IsLawful, IsLawfulTransaction}
+use Rattle.store_model.specs.Lawful.{IsLawfulTransaction}
 use Rattle.store_model.proofs.Orders.{IsPlacedName, lawful_one, placed_one}
 use Rattle.page_locks.specs.Holding.{is_admitted, numbers}
 use Rattle.page_locks.specs.declared.locks.Held.{Held}

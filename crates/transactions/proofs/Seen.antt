@@ -1,23 +1,20 @@
 -- What a page shows of a known name, and of a write to it.
-use Rattle.std.proofs.Common.{◌≡◌, ◌≢◌, ℕ, zero, suc, ◌+◌, ◌<◌, ◌≤◌, Bool, true, false, not, ◌&&◌, ◌||◌, ◌==◌, cond, List, [], ◌∷◌, ◌++◌, map, length, Option, Some, None, refl, sym, subst, ap, ◌∙◌, ◌⊎◌, inl, inr, arith, get_or, set, append-nil, get_or-set_same, get_or-set_other, length-append}
-use Rattle.std.specs.List.{filter, find, list_any, AllByRecursion, slice_set}
+use Rattle.std.proofs.Common.{◌≡◌, ℕ, zero, suc, ◌<◌, Bool, true, false, not, ◌==◌, cond, List, [], ◌∷◌, ◌++◌, map, length, Some, None, refl, sym, subst, ap, ◌∙◌, ◌⊎◌, inl, inr, arith}
+use Rattle.std.specs.List.{filter, find, AllByRecursion}
 use Rattle.std.specs.Bool.{IsTrue}
-use Rattle.std.proofs.lemmas.Bool.{and_parts, and_from, cases_Bool, cases_eq, eqb-true, eq-eqb, cond-false, cond-true, not-true, not-false, or_parts}
+use Rattle.std.proofs.lemmas.Bool.{and_parts, and_from, cases_Bool, eqb-true, eq-eqb}
 use Rattle.std.proofs.lemmas.List.Elements.{filter-append}
-use Rattle.std.proofs.lemmas.List.{map-append, length-map, get_or-map, same_lists, length-set, get_or_append_left}
-use Rattle.std.proofs.Math.Seq.{get_or-append_seam}
+use Rattle.std.proofs.lemmas.List.{map-append}
 use Rattle.object_graph.specs.NameParts.{NameParts}
-use Rattle.object_graph.specs.SlotParts.{SlotParts}
 use Rattle.object_graph.specs.Names.{name_eq}
 use Rattle.object_graph.specs.declared.names.Object.{Object}
-use Rattle.object_graph.specs.Graphs.{is_at, objects_at, has_name, has_object, object_named, IsReachedFrom}
+use Rattle.object_graph.specs.Graphs.{is_at, objects_at, has_name, has_object, object_named}
 use Rattle.object_graph.specs.Slots.{below}
-use Rattle.store_model.specs.Worlds.{World, Transaction, Write, link, assign, view, with_writes, written_by, new_object, starts, fields_of, is_unfreed, IsHeldBy, IsOutOfReach}
-use Rattle.store_model.specs.Causes.{has_page, name_at}
-use Rattle.store_model.specs.Lawful.{HaveFields, IsKnownWrite, IsOwn, IsLawfulTransaction, CountsUp, OnlyLastUnfreed, generations_at, IsLawful, IsCovered, IsCoveredPath}
-use Rattle.object_graph.proofs.Members.{In, in_filter, filter_in, each_in, in_map, map_in, in_append, append_left, append_right, in_any}
-use Rattle.store_model.proofs.Reach.{name-with_writes, name-written_by}
-use Rattle.object_graph.proofs.Paths.{name_eq_same, name_eq_refl, has_name_in, in_has_name, has_object_in}
+use Rattle.store_model.specs.Worlds.{World, Transaction, view, with_writes, new_object, starts, fields_of, is_unfreed, IsHeldBy, IsOutOfReach}
+use Rattle.store_model.specs.Lawful.{HaveFields, IsOwn, IsLawfulTransaction, CountsUp, OnlyLastUnfreed, IsLawful, IsCovered, IsCoveredPath}
+use Rattle.object_graph.proofs.Members.{In, in_filter, filter_in, each_in, in_map, map_in, in_append, append_right, in_any}
+use Rattle.store_model.proofs.Reach.{name-with_writes}
+use Rattle.object_graph.proofs.Paths.{name_eq_same, name_eq_refl, has_name_in, has_object_in}
 use Rattle.store_model.proofs.Locks.{name_in_view}
 use Rattle.store_model.proofs.Cuts.{next_name_is_new}
 use Rattle.store_model.proofs.Fields.{view_has_fields}
@@ -49,7 +46,7 @@ distinct_counts zero = tt
 distinct_counts (suc n) =
     subst AreDistinct (sym (map-append suc (below n) (n ∷ [])))
     (distinct-append (map suc (below n)) (suc n) (distinct_counts n) (λ i.
-        let a = in_map suc (below n) (suc n) i in let l = member_of_below n a.0 a.1 in let e : suc n ≡ suc a.0 = a.2 in absurd (omega arith)))
+    let a = in_map suc (below n) (suc n) i in let l = member_of_below n a.0 a.1 in let e : suc n ≡ suc a.0 = a.2 in absurd (omega arith)))
 
 pub nothing_in : {A : Type 0} (ys : List A) → ((y : A) → In y ys → ⊥) → ys ≡ []
 nothing_in [] h = refl
@@ -65,9 +62,9 @@ one_of_value value test n (x ∷ xs) o d h m = by (λ k. one_of_value value test
         → In o (cond b (x ∷ filter test xs) (filter test xs)) → cond (test x) (x ∷ filter test xs) (filter test xs) ≡ o ∷ []
     by ih true e k =
         let none : filter test xs ≡ [] = nothing_in (filter test xs) (λ y i.
-            let a = in_filter test xs y i in
-            let same : value y ≡ value x = h y (inr a.0) a.1 ∙ sym (h x (inl refl) e) in
-            d.0 (subst (λ v. In v (map value xs)) same (map_in value xs y a.0))) in
+        let a = in_filter test xs y i in
+        let same : value y ≡ value x = h y (inr a.0) a.1 ∙ sym (h x (inl refl) e) in
+        d.0 (subst (λ v. In v (map value xs)) same (map_in value xs y a.0))) in
         ap (λ b. cond b (x ∷ filter test xs) (filter test xs)) e
         ∙ elim k [
           | inl s ↦ ap (λ ys. x ∷ ys) none ∙ ap (λ z. z ∷ []) (sym s)
@@ -81,10 +78,10 @@ alone_at_place w page slot o counts last m =
     one_of_value (λ o. o.name.generation) (is_unfreed w.freed) (length (objects_at w.graph page slot)) (objects_at w.graph page slot) o
     (subst AreDistinct (sym (counts page slot)) (distinct_counts (length (objects_at w.graph page slot))))
     (λ x i e.
-        let k = place_of page slot w.graph x i in
-        let a = in_filter (λ o. is_at page slot o.name) w.graph x i in
-        each_in (λ o. o.name.generation ≡ length (objects_at w.graph o.name.page o.name.slot)) (filter (is_unfreed w.freed) w.graph) x last (filter_in (is_unfreed w.freed) w.graph x a.0 e)
-        ∙ (ap (λ p. length (objects_at w.graph p x.name.slot)) k.0 ∙ ap (λ s. length (objects_at w.graph page s)) k.1))
+    let k = place_of page slot w.graph x i in
+    let a = in_filter (λ o. is_at page slot o.name) w.graph x i in
+    each_in (λ o. o.name.generation ≡ length (objects_at w.graph o.name.page o.name.slot)) (filter (is_unfreed w.freed) w.graph) x last (filter_in (is_unfreed w.freed) w.graph x a.0 e)
+    ∙ (ap (λ p. length (objects_at w.graph p x.name.slot)) k.0 ∙ ap (λ s. length (objects_at w.graph page s)) k.1))
     m
 
 -- ---- a known name is there
@@ -151,8 +148,8 @@ nothing_unfreed w t m page slot lawful i =
     let b = and_parts (m.page == page) (m.slot == slot) a.1 in
     let own = each_in (IsOwn w.graph w.freed t) t.own m lawful.own a.0 in
     let free : AllByRecursion (λ o. IsTrue (has_name w.freed o.name)) (objects_at w.graph page slot) =
-        subst (λ p. AllByRecursion (λ o. IsTrue (has_name w.freed o.name)) (objects_at w.graph p slot)) (eqb-true m.page page b.0)
-        (subst (λ s. AllByRecursion (λ o. IsTrue (has_name w.freed o.name)) (objects_at w.graph m.page s)) (eqb-true m.slot slot b.1) own.free) in
+    subst (λ p. AllByRecursion (λ o. IsTrue (has_name w.freed o.name)) (objects_at w.graph p slot)) (eqb-true m.page page b.0)
+    (subst (λ s. AllByRecursion (λ o. IsTrue (has_name w.freed o.name)) (objects_at w.graph m.page s)) (eqb-true m.slot slot b.1) own.free) in
     none_pass (is_unfreed w.freed) (objects_at w.graph page slot) (λ x j. ap not (each_in (λ o. IsTrue (has_name w.freed o.name)) (objects_at w.graph page slot) x free j))
 
 pub own_unfreed : (w : World) (t : Transaction) (m : NameParts) → IsLawful w → IsLawfulTransaction w.graph w.freed (starts w) t → In m t.own → has_name w.freed m ≡ false
@@ -170,16 +167,20 @@ known_object w t name lawful m known =
   where
     lt : IsLawfulTransaction w.graph w.freed (starts w) t
     lt = each_in (IsLawfulTransaction w.graph w.freed (starts w)) w.transactions t lawful.orderly.transactions m
+
     unfreed_name : has_name w.freed name ≡ false
     unfreed_name = known_unfreed w t name lawful m known
+
     there_at : has_object w.graph name ≡ true → (o : Object) × In o (unfreed_at w.graph w.freed name.page name.slot) × (o.name ≡ name)
     there_at h =
-        let a = has_object_in w.graph name h in
-        (a.0,
-         filter_in (is_unfreed w.freed) (objects_at w.graph name.page name.slot) a.0
-         (filter_in (λ (o : Object). is_at name.page name.slot o.name) w.graph a.0 a.1 (subst (λ (n : NameParts). is_at name.page name.slot n ≡ true) (sym a.2) (at_own_place name)))
-         (ap not (ap (has_name w.freed) a.2 ∙ unfreed_name)),
-         a.2)
+        let a = has_object_in w.graph name h in (
+          a.0,
+          filter_in (is_unfreed w.freed) (objects_at w.graph name.page name.slot) a.0
+              (filter_in (λ (o : Object). is_at name.page name.slot o.name) w.graph a.0 a.1 (subst (λ (n : NameParts). is_at name.page name.slot n ≡ true) (sym a.2) (at_own_place name)))
+              (ap not (ap (has_name w.freed) a.2 ∙ unfreed_name)),
+          a.2,
+        )
+
     by : (names : List NameParts) → filter (is_at name.page name.slot) t.own ≡ names → length names < 2 → IsThere w t name
     by [] e few = elim (own_or_there w t name lt known) [
       | inl own ↦ absurd (subst (λ ns. In name ns) e (filter_in (is_at name.page name.slot) t.own name (has_name_in t.own name own) (at_own_place name)))

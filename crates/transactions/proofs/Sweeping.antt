@@ -1,8 +1,8 @@
 -- The frames after slots of a page were freed.
-use Rattle.std.proofs.Common.{◌≡◌, ◌≢◌, ℕ, ◌+◌, ◌<◌, Bool, true, false, not, ◌&&◌, ◌||◌, ◌==◌, cond, List, [], ◌∷◌, ◌++◌, map, length, Option, Some, None, refl, sym, subst, ap, ◌∙◌, inl, inr, arith, set, get_or, append-nil, get_or-set_same, get_or-set_other}
-use Rattle.std.specs.List.{filter, list_any, range_with_len}
+use Rattle.std.proofs.Common.{◌≡◌, ◌≢◌, ℕ, ◌+◌, ◌<◌, Bool, true, false, not, ◌&&◌, ◌||◌, ◌==◌, cond, List, [], ◌∷◌, ◌++◌, map, length, Option, Some, None, refl, sym, subst, ap, ◌∙◌, inl, inr, arith, set, append-nil, get_or-set_same, get_or-set_other}
+use Rattle.std.specs.List.{filter, range_with_len}
 use Rattle.std.specs.Option.{unwrap_or}
-use Rattle.std.proofs.lemmas.Bool.{cases_Bool, cases_eq, and_parts, and_from, eqb-true, eq-eqb, or_cases, false_from_ne_true}
+use Rattle.std.proofs.lemmas.Bool.{cases_Bool, cases_eq, and_from, eq-eqb, false_from_ne_true}
 use Rattle.std.proofs.lemmas.List.{length-set, length-map}
 use Rattle.std.proofs.lemmas.List.Folds.{list_any-append}
 use Rattle.std.proofs.lemmas.List.FromFn.{get_or-map-range_with_len, length-map-range_with_len}
@@ -56,11 +56,11 @@ slot_away : (w : World) (page slots fields p slot : ℕ) (graph : List Object) �
 slot_away w page slots fields p slot graph away =
     ap (λ us. slot_with fields us (length (objects_at graph p slot)))
     (filter_among (is_unfreed (names_in w page slots ++ w.freed)) (is_unfreed w.freed) (objects_at graph p slot) (λ o m.
-        let k = place_of p slot graph o m in
-        ap not (has_name-append (names_in w page slots) w.freed o.name
-        ∙ ap (λ b. b || has_name w.freed o.name) (false_from_ne_true (has_name (names_in w page slots) o.name) (λ e.
-            let a = gone_name w page slots o.name e in
-            away (sym k.0 ∙ a.0, ap (has_slot slots) (sym k.1) ∙ a.1))))))
+    let k = place_of p slot graph o m in
+    ap not (has_name-append (names_in w page slots) w.freed o.name
+    ∙ ap (λ b. b || has_name w.freed o.name) (false_from_ne_true (has_name (names_in w page slots) o.name) (λ e.
+    let a = gone_name w page slots o.name e in
+    away (sym k.0 ∙ a.0, ap (has_slot slots) (sym k.1) ∙ a.1))))))
 
 -- the unfreed objects at a place go, and each has the last generation there
 pub record AllGo (w : World) (page slots slot : ℕ) (graph : List Object) : Type 0 where
@@ -78,6 +78,7 @@ slot_here w page slots slot graph h =
       | inl e ↦ or_right (has_name (names_in w page slots) o.name) (has_name w.freed o.name) e
       | inr e ↦ or_left (has_name (names_in w page slots) o.name) (has_name w.freed o.name) (h.named o (filter_in (is_unfreed w.freed) (objects_at graph page slot) o m (ap not e)))
     ])
+
     left : (us : List Object) → ((o : Object) → In o us → o.name.generation ≡ length (objects_at graph page slot))
         → slot_with 4 [] (length (objects_at graph page slot)) ≡ freed (slot_with 4 us (length (objects_at graph page slot)))
     left [] last = refl
@@ -106,15 +107,18 @@ view_goes w t page slots slot orderly on none = record {
   where
     h : AllGo w page slots slot w.graph
     h = graph_goes w page slots slot orderly on
+
     unfreed_is : unfreed_at (view w t) w.freed page slot ≡ map (with_writes t.writes) (unfreed_at w.graph w.freed page slot)
     unfreed_is =
         unfreed_at-view w t page slot
         ∙ (ap (λ ns. map (with_writes t.writes) (unfreed_at w.graph w.freed page slot ++ filter (is_unfreed w.freed) (map (new_object w) ns))) none
         ∙ ap (map (with_writes t.writes)) (append-nil (unfreed_at w.graph w.freed page slot)))
+
     under : (o : Object) → In o (unfreed_at (view w t) w.freed page slot) → (a : Object) × In a (unfreed_at w.graph w.freed page slot) × (o.name ≡ a.name)
     under o m =
         let a = in_map (with_writes t.writes) (unfreed_at w.graph w.freed page slot) o (subst (λ os. In o os) unfreed_is m) in
         (a.0, a.1, ap (λ (x : Object). x.name) a.2 ∙ name-with_writes t.writes a.0)
+
     count : length (objects_at (view w t) page slot) ≡ length (objects_at w.graph page slot)
     count =
         ap length (objects_at-view w t page slot)
@@ -126,7 +130,7 @@ used_is_not_own : (w : World) (t : Transaction) (page slot fields : ℕ) → IsL
     → filter (is_at page slot) t.own ≡ []
 used_is_not_own w t page slot fields lawful used = nothing_in (filter (is_at page slot) t.own) (λ n m.
     let z : (shown_slot fields w.graph w.freed page slot).in_use ≡ false =
-        ap (λ us. (slot_with fields us (length (objects_at w.graph page slot))).in_use) (nothing_unfreed w t n page slot lawful m) in
+    ap (λ us. (slot_with fields us (length (objects_at w.graph page slot))).in_use) (nothing_unfreed w t n page slot lawful m) in
     cc)
 
 -- ---- one page
@@ -141,19 +145,20 @@ page_goes w page slots graph h =
     ap (λ xs. record { number = page; slots = xs })
     (shown_from (slots_of w page) (fields_of w page) graph (names_in w page slots ++ w.freed) page (map freed_at (range_with_len 0 (length (shown_in w graph page)))) (length-map-range_with_len freed_at 0 (length (shown_in w graph page)) ∙ count)
     (λ slot d lt.
-        let within : slot < length (shown_in w graph page) = subst (λ n. slot < n) (sym count) lt in
-        let zero : 0 + slot ≡ slot = omega arith in
-        get_or-map-range_with_len freed_at 0 (length (shown_in w graph page)) slot slot d within zero
-        ∙ (ap (slot_freed slots slot) (get-shown (slots_of w page) (fields_of w page) graph w.freed page slot fresh_slot lt)
-        ∙ elim (cases_Bool (has_slot slots slot)) [
-          | inl on ↦ ap (λ b. cond b (freed (shown_slot 4 graph w.freed page slot)) (shown_slot 4 graph w.freed page slot)) on ∙ sym (slot_here w page slots slot graph (h slot lt on))
-          | inr off ↦
-              ap (λ b. cond b (freed (shown_slot 4 graph w.freed page slot)) (shown_slot 4 graph w.freed page slot)) off
-              ∙ sym (slot_away w page slots 4 page slot graph (λ k. let y = k.1 in cc))
-        ])))
+    let within : slot < length (shown_in w graph page) = subst (λ n. slot < n) (sym count) lt in
+    let zero : 0 + slot ≡ slot = omega arith in
+    get_or-map-range_with_len freed_at 0 (length (shown_in w graph page)) slot slot d within zero
+    ∙ (ap (slot_freed slots slot) (get-shown (slots_of w page) (fields_of w page) graph w.freed page slot fresh_slot lt)
+    ∙ elim (cases_Bool (has_slot slots slot)) [
+      | inl on ↦ ap (λ b. cond b (freed (shown_slot 4 graph w.freed page slot)) (shown_slot 4 graph w.freed page slot)) on ∙ sym (slot_here w page slots slot graph (h slot lt on))
+      | inr off ↦
+          ap (λ b. cond b (freed (shown_slot 4 graph w.freed page slot)) (shown_slot 4 graph w.freed page slot)) off
+          ∙ sym (slot_away w page slots 4 page slot graph (λ k. let y = k.1 in cc))
+    ])))
   where
     freed_at : ℕ → SlotParts
     freed_at slot = slot_freed slots slot (slot_at (image_in w graph page) slot)
+
     count : length (shown_in w graph page) ≡ slots_of w page
     count = length-shown (slots_of w page) (fields_of w page) graph w.freed page
 

@@ -1,4 +1,4 @@
-use Rattle.std.proofs.Common.{◌≡◌, ◌<◌, [], true, sym, subst, ap, ◌∙◌, refl, arith}
+use Rattle.std.proofs.Common.{[], sym, ap, ◌∙◌, refl}
 use Rattle.store_model.specs.Causes.{has_page}
 use Rattle.transactions.proofs.Opened.{opened, wrote_within}
 use Rattle.transactions.proofs.Refusals.{is_open}

@@ -1,4 +1,4 @@
-use Rattle.std.proofs.Common.{◌≡◌, ◌<◌, List, Some, true, sym, subst, ◌∙◌, refl, arith}
+use Rattle.std.proofs.Common.{List, Some, sym, subst}
 use Rattle.object_graph.specs.declared.calls.Call.TheVariants.{New}
 use Rattle.object_graph.specs.declared.calls.Refusal.TheVariants.{Busy, TooWide, KnowsTooMany, PageFull}
 use Rattle.page_buffer.specs.declared.frame.Frame.{Frame}
@@ -65,16 +65,16 @@ returns-clause-steps g c = λ w r.
     let o = opened c.args.self.now _ w c.args.txn c.in-Some.entry.now (sym c.self.view_is) (sym c.in-Some.ensures) r in
     let low = page_below _ w c.args.page c.count.result o.ready c.if-page-count.false c.count.ensures.value in
     let made = creates _ (record { table = c.note_target.new.self; locks = c.try_exclusive.new.self; frames = c.take_slot.new.self }) w c.args.txn c.in-Some.entry.now c.args.page c.in-Ok.name o low
-        (record {
-          nobody = c.in_default-check_exclusive.ensures.free;
-          narrow = sym c.if-is_too_wide.ensures;
-          spare = sym c.if-knows_most.ensures;
-          locked = c.in-Ok-try_exclusive.ensures.taken;
-          pages = c.in-Ok-try_exclusive.ensures.pages;
-          noted = changes_twice (NotesPage c.args.page) (NotesTarget (Some c.in-Ok.name)) c.args.txn c.self.inside.table c.note_page.new.self c.note_target.new.self c.note_page.ensures c.note_target.ensures;
-          next = c.in-Ok.ensures.next;
-          frames = c.in-Ok.ensures.taken;
-        }) in
+    (record {
+      nobody = c.in_default-check_exclusive.ensures.free;
+      narrow = sym c.if-is_too_wide.ensures;
+      spare = sym c.if-knows_most.ensures;
+      locked = c.in-Ok-try_exclusive.ensures.taken;
+      pages = c.in-Ok-try_exclusive.ensures.pages;
+      noted = changes_twice (NotesPage c.args.page) (NotesTarget (Some c.in-Ok.name)) c.args.txn c.self.inside.table c.note_page.new.self c.note_target.new.self c.note_page.ensures c.note_target.ensures;
+      next = c.in-Ok.ensures.next;
+      frames = c.in-Ok.ensures.taken;
+    }) in
     record {
       allowed = (made.allowed, answers_made w c.args.txn c.args.page c.in-Ok.name made.named);
       stands = stands_made w _ c.args.txn c.args.page c.in-Ok.name made;

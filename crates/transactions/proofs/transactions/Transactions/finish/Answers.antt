@@ -1,4 +1,4 @@
-use Rattle.std.proofs.Common.{◌≡◌, ◌<◌, true, sym, subst, ap, ◌∙◌, refl, arith}
+use Rattle.std.proofs.Common.{sym, ap, ◌∙◌, refl}
 use Rattle.store_model.specs.Worlds.{transaction, view}
 use Rattle.store_model.specs.Causes.{has_page}
 use Rattle.store_model.specs.Steps.{committed}

@@ -1,5 +1,4 @@
-use Rattle.std.proofs.Common.{true, sym, subst, ap, ◌∙◌, refl}
-use Rattle.std.specs.List.{slice_index_or}
+use Rattle.std.proofs.Common.{sym, ap, refl}
 use Rattle.object_graph.specs.declared.calls.Call.TheVariants.{Get}
 use Rattle.object_graph.specs.declared.calls.Reply.TheVariants.{Ref}
 use Rattle.object_graph.specs.declared.calls.Refusal.TheVariants.{Busy, KnowsTooMany}
@@ -45,7 +44,7 @@ pub returns-then-has_no_room_for-clause-steps : goal.returns-then-has_no_room_fo
 returns-then-has_no_room_for-clause-steps g c = λ w r.
     let o = opened c.args.self.now _ w c.args.txn c.in-Some.entry.now (sym c.self.view_is) (sym c.in-Some.ensures) r in
     let seen = read_field _ w c.args.txn c.in-Some.entry.now c.args.name c.page-page.result c.args.field c.in-Some-object_seen.object c.index-object-field.result o (sym c.if-not-knows.ensures)
-        c.page-page.ensures.value c.in_default-check_shared.ensures.free (sym c.in-Some-object_seen.ensures.object) c.if-field-ge4.false in
+    c.page-page.ensures.value c.in_default-check_shared.ensures.free (sym c.in-Some-object_seen.ensures.object) c.if-field-ge4.false in
     record {
       allowed = refused w (Get c.args.txn c.args.name c.args.field) KnowsTooMany
           (get_full _ w c.args.txn c.in-Some.entry.now c.args.name c.args.field c.page-page.result _ _ o (sym c.if-not-knows.ensures) c.if-field-ge4.false c.page-page.ensures.value
@@ -62,7 +61,7 @@ pub returns-clause-steps : goal.returns-clause-steps
 returns-clause-steps g c = λ w r.
     let o = opened c.args.self.now _ w c.args.txn c.in-Some.entry.now (sym c.self.view_is) (sym c.in-Some.ensures) r in
     let seen = read_field _ w c.args.txn c.in-Some.entry.now c.args.name c.page-page.result c.args.field c.in-Some-object_seen.object c.index-object-field.result o (sym c.if-not-knows.ensures)
-        c.page-page.ensures.value c.in_default-check_shared.ensures.free (sym c.in-Some-object_seen.ensures.object) c.if-field-ge4.false in
+    c.page-page.ensures.value c.in_default-check_shared.ensures.free (sym c.in-Some-object_seen.ensures.object) c.if-field-ge4.false in
     record {
       allowed = (
         get_full _ w c.args.txn c.in-Some.entry.now c.args.name c.args.field c.page-page.result _ _ o (sym c.if-not-knows.ensures) c.if-field-ge4.false c.page-page.ensures.value
