@@ -17,43 +17,19 @@ use Rattle.store_model.proofs.Reach.{name-with_writes}
 use Rattle.object_graph.proofs.Paths.{name_eq_same, name_eq_refl, has_name_in, has_object_in}
 use Rattle.store_model.proofs.Locks.{name_in_view}
 use Rattle.store_model.proofs.Cuts.{next_name_is_new}
+use Rattle.store_model.proofs.Shown.{AreApart, apart_below, last_at}
 use Rattle.store_model.proofs.Fields.{view_has_fields}
 use Rattle.store_model.specs.Images.{unfreed_at}
 use Rattle.transactions.proofs.Viewed.{filter-map_kept, objects_at-view, place_of}
 
 -- ---- at most one unfreed object at a place
 
-abbrev pub AreDistinct : List ℕ → Type 0
-AreDistinct [] = Unit {0}
-AreDistinct (x ∷ xs) = (In x xs → ⊥) × AreDistinct xs
-
-distinct-append : (xs : List ℕ) (y : ℕ) → AreDistinct xs → (In y xs → ⊥) → AreDistinct (xs ++ y ∷ [])
-distinct-append [] y d n = (λ i. i, tt)
-distinct-append (x ∷ xs) y d n = (
-  λ i. elim (in_append xs (y ∷ []) x i) [ inl a ↦ d.0 a | inr b ↦ elim b [ inl e ↦ n (inl (sym e)) | inr z ↦ z ] ],
-  distinct-append xs y d.1 (λ i. n (inr i)),
-)
-
-member_of_below : (n j : ℕ) → In j (below n) → j < n
-member_of_below zero j m = absurd m
-member_of_below (suc n) j m = elim (in_append (below n) (n ∷ []) j m) [
-  | inl a ↦ let h = member_of_below n j a in omega arith
-  | inr b ↦ elim b [ inl e ↦ omega arith | inr z ↦ absurd z ]
-]
-
-distinct_counts : (n : ℕ) → AreDistinct (map suc (below n))
-distinct_counts zero = tt
-distinct_counts (suc n) =
-    subst AreDistinct (sym (map-append suc (below n) (n ∷ [])))
-    (distinct-append (map suc (below n)) (suc n) (distinct_counts n) (λ i.
-    let a = in_map suc (below n) (suc n) i in let l = member_of_below n a.0 a.1 in let e : suc n ≡ suc a.0 = a.2 in absurd (omega arith)))
-
 pub nothing_in : {A : Type 0} (ys : List A) → ((y : A) → In y ys → ⊥) → ys ≡ []
 nothing_in [] h = refl
 nothing_in (y ∷ ys) h = absurd (h y (inl refl))
 
 -- of a list with distinct values, at most one has a given value
-pub one_of_value : (value : Object → ℕ) (test : Object → Bool) (n : ℕ) (xs : List Object) (o : Object) → AreDistinct (map value xs)
+pub one_of_value : (value : Object → ℕ) (test : Object → Bool) (n : ℕ) (xs : List Object) (o : Object) → AreApart (map value xs)
     → ((x : Object) → In x xs → test x ≡ true → value x ≡ n) → In o (filter test xs) → filter test xs ≡ o ∷ []
 one_of_value value test n [] o d h m = absurd m
 one_of_value value test n (x ∷ xs) o d h m = by (λ k. one_of_value value test n xs o d.1 (λ y i. h y (inr i)) k) (test x) refl m
@@ -76,13 +52,8 @@ pub alone_at_place : (w : World) (page slot : ℕ) (o : Object) → CountsUp w.g
     → In o (unfreed_at w.graph w.freed page slot) → unfreed_at w.graph w.freed page slot ≡ o ∷ []
 alone_at_place w page slot o counts last m =
     one_of_value (λ o. o.name.generation) (is_unfreed w.freed) (length (objects_at w.graph page slot)) (objects_at w.graph page slot) o
-    (subst AreDistinct (sym (counts page slot)) (distinct_counts (length (objects_at w.graph page slot))))
-    (λ x i e.
-    let k = place_of page slot w.graph x i in
-    let a = in_filter (λ o. is_at page slot o.name) w.graph x i in
-    each_in (λ o. o.name.generation ≡ length (objects_at w.graph o.name.page o.name.slot)) (filter (is_unfreed w.freed) w.graph) x last (filter_in (is_unfreed w.freed) w.graph x a.0 e)
-    ∙ (ap (λ p. length (objects_at w.graph p x.name.slot)) k.0 ∙ ap (λ s. length (objects_at w.graph page s)) k.1))
-    m
+    (subst AreApart (sym (counts page slot)) (apart_below (length (objects_at w.graph page slot))))
+    (λ x i e. last_at w.graph w.freed page slot x last (filter_in (is_unfreed w.freed) (objects_at w.graph page slot) x i e)) m
 
 -- ---- a known name is there
 

@@ -1,5 +1,8 @@
-use Rattle.std.proofs.Common.{[], sym, ap, ◌∙◌, refl}
+use Rattle.std.proofs.Common.{List, [], sym, subst, ap, ◌∙◌, refl}
 use Rattle.store_model.specs.Causes.{has_page}
+use Rattle.store_model.specs.Steps.{without}
+use Rattle.page_buffer.specs.declared.frame.Frame.{Frame}
+use Rattle.transactions.specs.Standing.{AreFramesOf}
 use Rattle.transactions.proofs.Opened.{opened, wrote_within}
 use Rattle.transactions.proofs.Refusals.{is_open}
 use Rattle.transactions.proofs.Ends.{table_without, locks_without, frames_abort}
@@ -19,10 +22,10 @@ returns-clause-steps c = λ w r.
       stands = record {
         limit = o.ready.stands.limit;
         fields = o.ready.stands.fields;
-        table = table_without w _ c.self.inside.table c.remove.new.self c.args.txn refl o.ready.stands.table c.remove.ensures;
-        locks = locks_without w _ c.self.inside.locks c.release_all.new.self c.args.txn refl refl o.ready.stands.locks c.release_all.ensures.pages c.release_all.ensures.released;
-        frames = frames_abort w _ c.self.inside.buffer c.revert_all.new.buffer c.args.txn o.of c.written.result.now r.lawful o.found refl refl refl refl
+        table = table_without w _ c.self.inside.table c.close.new.self.table c.args.txn refl o.ready.stands.table c.close.ensures.table;
+        locks = locks_without w _ c.self.inside.locks c.close.new.self.locks c.args.txn refl refl o.ready.stands.locks c.close.ensures.pages c.close.ensures.locks;
+        frames = subst (λ (fs : List Frame). AreFramesOf (record w { transactions = without w c.args.txn }) fs) (sym c.close.ensures.frames) (frames_abort w _ c.self.inside.buffer c.revert_all.new.buffer c.args.txn o.of c.written.result.now r.lawful o.found refl refl refl refl
             (λ page. ap (λ ps. has_page ps page) c.written.ensures.pages ∙ o.entry.written.each page)
-            o.ready.stands.frames (record { count = c.revert_all.ensures.count; frames = c.revert_all.ensures.frames });
+            o.ready.stands.frames (record { count = c.revert_all.ensures.count; frames = c.revert_all.ensures.frames }));
       };
     }
