@@ -1,23 +1,22 @@
 -- A transaction begins.
-use Rattle.std.proofs.Common.{◌≡◌, ◌≢◌, ℕ, ◌+◌, ◌<◌, ◌≤◌, Bool, true, false, ◌||◌, ◌==◌, cond, List, [], ◌∷◌, ◌++◌, map, reverse, length, Option, Some, None, refl, sym, subst, ap, ◌∙◌, ◌⊎◌, inl, inr, arith, nat_eq, nat_le}
-use Rattle.std.specs.List.{find, list_any}
+use Rattle.std.proofs.Common.{◌≡◌, ◌≢◌, ℕ, Bool, true, false, ◌||◌, ◌==◌, cond, List, [], ◌∷◌, ◌++◌, map, length, Option, Some, None, refl, sym, subst, ap, ◌∙◌, inl, inr, nat_eq, nat_le}
+use Rattle.std.specs.List.{list_any}
 use Rattle.std.specs.Option.{is_some, option_map, unwrap_or, MatchOption}
-use Rattle.std.specs.Map.{keys_of, lookup}
-use Rattle.std.proofs.lemmas.Bool.{cases_Bool, cases_eq, eqb-true, eq-eqb, ne_eqb}
-use Rattle.std.proofs.lemmas.List.{reverse-append, length-reverse, length-map, map-append, length-append}
+use Rattle.std.specs.Map.{keys_of}
+use Rattle.std.proofs.lemmas.Bool.{cases_Bool, cases_eq, eq-eqb, ne_eqb}
+use Rattle.std.proofs.lemmas.List.{reverse-append, length-reverse, length-map, map-append}
 use Rattle.object_graph.specs.declared.calls.Call.TheVariants.{Begin}
 use Rattle.object_graph.specs.declared.calls.Reply.TheVariants.{Done, Refused}
 use Rattle.object_graph.specs.declared.calls.Refusal.{Refusal}
 use Rattle.object_graph.specs.declared.calls.Refusal.TheVariants.{AlreadyOpen, TooMany, Memory, Broken}
-use Rattle.object_graph.proofs.Members.{In, any_in, in_map}
 use Rattle.store_model.specs.Worlds.{World, Transaction, nothing, find_transaction, transaction, fresh_transaction, view}
 use Rattle.store_model.specs.Causes.{first_met, first_refusal, when, has_page}
 use Rattle.store_model.specs.Replies.{AllowsReply, is_free}
 use Rattle.store_model.specs.Steps.{after_answer}
 use Rattle.page_locks.specs.Holding.{LockTable, numbers, is_admitted, HaveSameLocks}
 use Rattle.page_locks.specs.declared.locks.Held.{Held}
-use Rattle.transactions.specs.Tables.{OpenParts, Entries, entry_of, fresh_entry, most_open_here}
-use Rattle.transactions.specs.Standing.{TransactionsParts, numbers_of, wrote, AreAlike, IsTable, AreLocks, image_in, IsFrameOf, AreFramesOf, IsReady, Stands}
+use Rattle.transactions.specs.Tables.{OpenParts, Entries, entry_of, fresh_entry}
+use Rattle.transactions.specs.Standing.{TransactionsParts, numbers_of, wrote, AreAlike, IsTable, AreLocks, image_in, IsReady, Stands}
 use Rattle.transactions.proofs.Entries.{alike_by}
 use Rattle.transactions.proofs.Refusals.{refused}
 

@@ -1,5 +1,5 @@
 -- The frames after a step of a transaction.
-use Rattle.std.proofs.Common.{◌≡◌, ◌≢◌, ℕ, ◌<◌, Bool, true, false, ◌||◌, ◌==◌, List, length, Some, refl, sym, subst, ap, ◌∙◌, inl, inr, arith, set, get_or-set_same, get_or-set_other}
+use Rattle.std.proofs.Common.{◌≡◌, ◌≢◌, ℕ, ◌<◌, true, false, ◌||◌, ◌==◌, List, length, Some, refl, sym, subst, ap, ◌∙◌, inl, inr, arith, set, get_or-set_same, get_or-set_other}
 use Rattle.std.proofs.lemmas.Bool.{cases_Bool, cases_eq, eq-eqb, eqb-true, ne_eqb, or_cases}
 use Rattle.std.proofs.lemmas.List.{length-set}
 use Rattle.store_model.specs.Worlds.{World, Transaction, find_transaction, transaction, view, starts}
@@ -92,16 +92,22 @@ frames_change w frames txn page frame change t h lt found kept pages alone befor
   where
     w2 : World
     w2 = with_transaction w txn change
+
     in_frames : page < length frames
     in_frames = let e : length frames ≡ w.pages = h.count in omega arith
+
     now : transaction w2 txn ≡ change t
     now = at_same w txn change t kept found
+
     old : transaction w txn ≡ t
     old = transaction_found w txn t found
+
     wrote_is : (p : ℕ) → wrote w2 txn p ≡ (has_page t.pages_written p || (page == p))
     wrote_is p = ap (λ x. has_page x.pages_written p) now ∙ (ap (λ ps. has_page ps p) pages ∙ has_page-with_page page p t.pages_written)
+
     unmoved : (p : ℕ) → p ≢ page → wrote w2 txn p ≡ has_page t.pages_written p
     unmoved p away = wrote_is p ∙ (ap (λ b. has_page t.pages_written p || b) (ne_eqb page p (λ f. away (sym f))) ∙ or_false (has_page t.pages_written p))
+
     still : (p : ℕ) → p ≢ page → (u : ℕ) → u ≡ txn → wrote w2 u p ≡ true → wrote w txn p ≡ true
     still p away u same e = subst (λ x. has_page x.pages_written p ≡ true) (sym old) (sym (unmoved p away) ∙ subst (λ v. wrote w2 v p ≡ true) same e)
 
@@ -127,8 +133,10 @@ frames_kept w frames txn change t h found kept pages seen = record {
   where
     now : transaction (with_transaction w txn change) txn ≡ change t
     now = at_same w txn change t kept found
+
     old : transaction w txn ≡ t
     old = transaction_found w txn t found
+
     same_wrote : (u p : ℕ) → wrote (with_transaction w txn change) u p ≡ wrote w u p
     same_wrote u p = elim (cases_eq u txn) [
       | inl same ↦

@@ -1,22 +1,20 @@
 -- The slot and the name of a new object.
-use Rattle.std.proofs.Common.{◌≡◌, ◌≢◌, ℕ, zero, suc, ◌+◌, ◌<◌, ◌≤◌, Bool, true, false, not, ◌&&◌, ◌||◌, ◌==◌, cond, List, [], ◌∷◌, ◌++◌, map, length, Option, Some, None, replicate, refl, sym, subst, ap, ◌∙◌, ◌⊎◌, inl, inr, arith, set, append-nil, nat_lt}
-use Rattle.std.specs.List.{filter, find, list_any, AllByRecursion}
+use Rattle.std.proofs.Common.{◌≡◌, ℕ, zero, suc, ◌<◌, ◌≤◌, Bool, true, false, not, ◌||◌, ◌==◌, cond, List, [], ◌∷◌, ◌++◌, map, length, Some, None, refl, sym, subst, ap, ◌∙◌, inl, inr, arith, append-nil, nat_lt}
+use Rattle.std.specs.List.{filter, find, list_any}
 use Rattle.std.specs.Option.{option_or}
-use Rattle.std.proofs.lemmas.Bool.{and_parts, and_from, cases_Bool, cases_eq, eqb-true, eq-eqb, ne_eqb, lt-ltb, le-ltb, cases_lt, not-false, false_from_ne_true}
-use Rattle.std.proofs.lemmas.List.Elements.{filter-append}
+use Rattle.std.proofs.lemmas.Bool.{cases_eq, eq-eqb, ne_eqb, lt-ltb, le-ltb, cases_lt, false_from_ne_true}
 use Rattle.std.proofs.lemmas.List.Folds.{find-append, list_any-append}
 use Rattle.std.proofs.lemmas.List.{map-append, length-map}
 use Rattle.object_graph.specs.NameParts.{NameParts}
-use Rattle.object_graph.specs.SlotParts.{SlotParts}
 use Rattle.object_graph.specs.declared.names.Object.{Object}
 use Rattle.object_graph.specs.Graphs.{is_at, objects_at, has_name}
 use Rattle.object_graph.specs.Slots.{below}
-use Rattle.store_model.specs.Worlds.{World, Transaction, view, with_writes, new_object, starts, is_freed, is_unfreed, slots_of, fields_of, find_transaction, transaction}
+use Rattle.store_model.specs.Worlds.{World, Transaction, view, with_writes, new_object, starts, is_unfreed, slots_of, fields_of, find_transaction}
 use Rattle.store_model.specs.Images.{unfreed_at, shown_slot, slot_with}
 use Rattle.page_image.specs.Slots.{has_room}
-use Rattle.store_model.specs.Causes.{is_occupied, free_slot, name_at, new_name}
+use Rattle.store_model.specs.Causes.{is_occupied, free_slot}
 use Rattle.store_model.specs.Lawful.{IsLawfulTransaction, IsLawful}
-use Rattle.object_graph.proofs.Members.{In, in_any, any_in, in_filter, filter_in, each_in, or_left, or_right}
+use Rattle.object_graph.proofs.Members.{In, in_any, any_in, in_filter, filter_in, each_in, or_left}
 use Rattle.transactions.proofs.Numbers.{transaction_found, found_in_list}
 use Rattle.transactions.proofs.Viewed.{objects_at-view}
 use Rattle.transactions.proofs.Seen.{unfreed_at-view, nothing_unfreed, own_unfreed}
@@ -91,14 +89,19 @@ taken_as_free w txn t fields page slot lawful found = by (filter (is_at page slo
   where
     m_t : In t w.transactions
     m_t = (found_in_list (λ (t : Transaction). t.number == txn) w.transactions t found).0
+
     lt : IsLawfulTransaction w.graph w.freed (starts w) t
     lt = each_in (IsLawfulTransaction w.graph w.freed (starts w)) w.transactions t lawful.orderly.transactions m_t
+
     unfree : Bool
     unfree = list_any (λ o. is_unfreed w.freed o || (o.name.generation == 65535)) (objects_at w.graph page slot)
+
     occupied_is : is_occupied w txn page slot ≡ (unfree || list_any (is_at page slot) t.own)
     occupied_is = ap (λ (x : Transaction). unfree || list_any (is_at page slot) x.own) (transaction_found w txn t found)
+
     count : length (objects_at (view w t) page slot) ≡ length (objects_at w.graph page slot ++ map (new_object w) (filter (is_at page slot) t.own))
     count = ap length (objects_at-view w t page slot) ∙ length-map (objects_at w.graph page slot ++ map (new_object w) (filter (is_at page slot) t.own)) (with_writes t.writes)
+
     free : (us : List Object) → unfreed_at w.graph w.freed page slot ≡ us → filter (is_at page slot) t.own ≡ []
         → has_room (slot_with fields (map (with_writes t.writes) us) (length (objects_at w.graph page slot))) ≡ not unfree
     free (o ∷ os) e none =
@@ -106,17 +109,18 @@ taken_as_free w txn t fields page slot lawful found = by (filter (is_at page slo
         sym (ap not (in_any (λ o. is_unfreed w.freed o || (o.name.generation == 65535)) (objects_at w.graph page slot) o i.0 (or_left (not (has_name w.freed o.name)) (o.name.generation == 65535) i.1)))
     free [] e none =
         let freed_all : (x : Object) → In x (objects_at w.graph page slot) → (not (has_name w.freed x.name) || (x.name.generation == 65535)) ≡ (x.name.generation == 65535) =
-            λ x m. ap (λ b. b || (x.name.generation == 65535)) (false_from_ne_true (not (has_name w.freed x.name)) (λ p. subst (λ us. In x us) e (filter_in (is_unfreed w.freed) (objects_at w.graph page slot) x m p))) in
+        λ x m. ap (λ b. b || (x.name.generation == 65535)) (false_from_ne_true (not (has_name w.freed x.name)) (λ p. subst (λ us. In x us) e (filter_in (is_unfreed w.freed) (objects_at w.graph page slot) x m p))) in
         let n : ℕ = length (objects_at w.graph page slot) in
         let same : unfree ≡ not (nat_lt n 65535) =
-            any_same (λ o. is_unfreed w.freed o || (o.name.generation == 65535)) (λ o. o.name.generation == 65535) (objects_at w.graph page slot) freed_all
-            ∙ (any_map (λ k. k == 65535) (λ o. o.name.generation) (objects_at w.graph page slot)
-            ∙ (ap (list_any (λ k. k == 65535)) (lawful.orderly.counted page slot) ∙ among_counts n 65534)) in
+        any_same (λ o. is_unfreed w.freed o || (o.name.generation == 65535)) (λ o. o.name.generation == 65535) (objects_at w.graph page slot) freed_all
+        ∙ (any_map (λ k. k == 65535) (λ o. o.name.generation) (objects_at w.graph page slot)
+        ∙ (ap (list_any (λ k. k == 65535)) (lawful.orderly.counted page slot) ∙ among_counts n 65534)) in
         twice (nat_lt n 65535) ∙ sym (ap not same)
       where
         twice : (b : Bool) → b ≡ not (not b)
         twice true = refl
         twice false = refl
+
     by : (names : List NameParts) → filter (is_at page slot) t.own ≡ names → length names < 2
         → has_room (shown_slot fields (view w t) w.freed page slot) ≡ not (is_occupied w txn page slot)
     by [] e few =

@@ -1,19 +1,18 @@
 -- The store of committed pages stands for the world that their images open to.
-use Rattle.std.proofs.Common.{◌≡◌, ℕ, zero, suc, ◌<◌, ◌≤◌, Bool, true, false, List, [], ◌∷◌, map, length, Option, Some, None, refl, sym, subst, ap, ◌∙◌, arith, get_or}
+use Rattle.std.proofs.Common.{◌≡◌, ℕ, zero, suc, ◌<◌, List, [], ◌∷◌, map, length, refl, sym, subst, ap, ◌∙◌, arith, get_or}
 use Rattle.std.specs.List.{AllByRecursion}
 use Rattle.std.specs.Bool.{IsTrue}
 use Rattle.std.proofs.lemmas.List.{length-map, get_or-map}
 use Rattle.std.proofs.lemmas.Option.{slice_get-get_or}
 use Rattle.object_graph.specs.SlotParts.{SlotParts}
-use Rattle.store_model.specs.Worlds.{World, slots_of, fields_of}
 use Rattle.store_model.specs.Images.{no_slot, shown}
-use Rattle.store_model.specs.FromImages.{world_of, IsSlot, slot_in, AreImages, has_root, IsWhole}
+use Rattle.store_model.specs.FromImages.{world_of, IsSlot, AreImages, has_root, IsWhole}
 use Rattle.store_model.proofs.OpenedWorlds.{opened_has_fields, opened_shows_page, opened_is_lawful}
 use Rattle.page_image.specs.Slots.{IsWhole as IsWholeSlot}
 use Rattle.page_image.specs.Pages.{PageParts, IsPage}
 use Rattle.page_buffer.specs.Frames.{blank_frame, clean_frame, frame_at}
 use Rattle.page_locks.specs.Holding.{LockTable, numbers, shares, excludes}
-use Rattle.transactions.specs.Standing.{TransactionsParts, images_of, AreNumbered, image_in, IsFrameOf, IsReady, Stands}
+use Rattle.transactions.specs.Standing.{images_of, AreNumbered, image_in, IsFrameOf, IsReady}
 
 -- what holds of each element holds of the one at a place
 all_at : {X : Type 0} (P : X → Type 0) (xs : List X) (i : ℕ) (d : X) → AllByRecursion P xs → i < length xs → P (get_or xs i d)

@@ -1,14 +1,14 @@
 -- What writes change of the pages that a view shows.
-use Rattle.std.proofs.Common.{◌≡◌, ◌≢◌, ℕ, ◌<◌, Bool, true, false, ◌==◌, cond, List, [], ◌∷◌, ◌++◌, map, length, Option, Some, None, refl, sym, subst, ap, ◌∙◌, get_or, set, append-nil, inl, inr, ◌&&◌}
-use Rattle.std.specs.List.{AllByRecursion, slice_set, filter}
-use Rattle.std.proofs.lemmas.Bool.{cond-true, eq-eqb, eqb-true, and_parts}
+use Rattle.std.proofs.Common.{◌≡◌, ◌≢◌, ℕ, ◌<◌, true, false, ◌==◌, List, [], ◌∷◌, ◌++◌, map, length, Option, sym, subst, ap, ◌∙◌, get_or, set, append-nil}
+use Rattle.std.specs.List.{slice_set, filter}
+use Rattle.std.proofs.lemmas.Bool.{cond-true, eqb-true, and_parts}
 use Rattle.object_graph.specs.NameParts.{NameParts}
 use Rattle.object_graph.specs.SlotParts.{SlotParts}
 use Rattle.object_graph.specs.Names.{name_eq}
 use Rattle.object_graph.specs.declared.names.Object.{Object}
 use Rattle.object_graph.specs.Graphs.{objects_at, is_at}
 use Rattle.store_model.specs.Worlds.{World, Transaction, Write, link, assign, view, with_writes, written_by, new_object, starts, slots_of, fields_of}
-use Rattle.store_model.specs.Images.{shown_slot, shown_of, shown_in, slot_with}
+use Rattle.store_model.specs.Images.{shown_slot, shown_in, slot_with}
 use Rattle.page_image.specs.Slots.{with_number, with_ref}
 use Rattle.store_model.specs.Causes.{has_page}
 use Rattle.store_model.specs.Steps.{writes}
@@ -27,7 +27,7 @@ pub unwritten_page : (w : World) (t : Transaction) (page : ℕ) → IsLawfulTran
 unwritten_page w t page lawful away =
     same_shown (slots_of w page) (fields_of w page) (view w t) w.graph w.freed w.freed page
     (λ s lt. commit_keeps_slot w t (fields_of w page) page s lawful.writes
-        (each_from (λ n. has_page t.pages_written n.page ≡ true) t.own (λ n m. (each_in (IsOwn w.graph w.freed t) t.own n lawful.own m).page)) away)
+    (each_from (λ n. has_page t.pages_written n.page ≡ true) t.own (λ n m. (each_in (IsOwn w.graph w.freed t) t.own n lawful.own m).page)) away)
 
 -- a write leaves each other page of the view
 pub write_on_another_page : (w : World) (t : Transaction) (write : Write) (of page : ℕ) → (written_name write).page ≢ page
@@ -35,8 +35,8 @@ pub write_on_another_page : (w : World) (t : Transaction) (write : Write) (of pa
 write_on_another_page w t write of page ne =
     same_shown (slots_of w page) (fields_of w page) (view w (writes write of t)) (view w t) w.freed w.freed page
     (λ s lt.
-        ap (λ g. shown_slot (fields_of w page) g w.freed page s) (view-writes w t write (writes write of t).pages_written)
-        ∙ write_elsewhere (fields_of w page) write (view w t) w.freed page s (λ same. ne same.0))
+    ap (λ g. shown_slot (fields_of w page) g w.freed page s) (view-writes w t write (writes write of t).pages_written)
+    ∙ write_elsewhere (fields_of w page) write (view w t) w.freed page s (λ same. ne same.0))
 
 -- a write changes one slot of its page
 write_on_page : (w : World) (t : Transaction) (write : Write) (of : ℕ) (x : SlotParts)
@@ -50,8 +50,8 @@ write_on_page w t write of x there lt is =
     (ap (λ g. shown_slot (fields_of w page) g w.freed page slot) (view-writes w t write (writes write of t).pages_written)
     ∙ (write_here (fields_of w page) write (view w t) w.freed there.object page slot there.alone ∙ is))
     (λ j below_n ne.
-        ap (λ g. shown_slot (fields_of w page) g w.freed page j) (view-writes w t write (writes write of t).pages_written)
-        ∙ write_elsewhere (fields_of w page) write (view w t) w.freed page j (λ same. ne (sym same.1)))
+    ap (λ g. shown_slot (fields_of w page) g w.freed page j) (view-writes w t write (writes write of t).pages_written)
+    ∙ write_elsewhere (fields_of w page) write (view w t) w.freed page j (λ same. ne (sym same.1)))
 
 -- the slot of a known name
 pub slot_of_known : (w : World) (t : Transaction) (name : NameParts) (d : SlotParts) (there : IsThere w t name) → name.slot < slots_of w name.page
@@ -109,9 +109,9 @@ pub others_see : (w w2 : World) (t u : Transaction) (page : ℕ) → w2.graph �
 others_see w w2 t u page graph freed lawful away =
     same_shown (slots_of w page) (fields_of w page) (view w2 u) (view w u) w2.freed w.freed page
     (λ s lt.
-        ap (λ f. shown_slot (fields_of w page) (view w2 u) f page s) freed
-        ∙ shown_from_place (fields_of w page) (view w2 u) (view w u) w.freed page s
-        (objects_at-view w2 u page s
-        ∙ (ap (λ os. map (with_writes u.writes) (os ++ map (new_object w) (filter (is_at page s) u.own)))
-        (ap (λ g. objects_at g page s) graph ∙ objects_unwritten w t page s lawful away)
-        ∙ sym (objects_at-view w u page s))))
+    ap (λ f. shown_slot (fields_of w page) (view w2 u) f page s) freed
+    ∙ shown_from_place (fields_of w page) (view w2 u) (view w u) w.freed page s
+    (objects_at-view w2 u page s
+    ∙ (ap (λ os. map (with_writes u.writes) (os ++ map (new_object w) (filter (is_at page s) u.own)))
+    (ap (λ g. objects_at g page s) graph ∙ objects_unwritten w t page s lawful away)
+    ∙ sym (objects_at-view w u page s))))

@@ -1,11 +1,12 @@
-pub mod KnownNumbers
-pub mod Written
 pub mod Begins
+pub mod Creates
+pub mod Ends
 pub mod Entries
 pub mod FramesSeen
-pub mod FromPages
 pub mod FreeSlots
+pub mod FromPages
 pub mod Images
+pub mod KnownNumbers
 pub mod LocksHeld
 pub mod Made
 pub mod Numbers
@@ -16,5 +17,7 @@ pub mod Ready
 pub mod Refusals
 pub mod Seen
 pub mod Shown
+pub mod Sweeping
 pub mod Viewed
 pub mod Writes
+pub mod Written

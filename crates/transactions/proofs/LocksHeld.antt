@@ -1,12 +1,12 @@
 -- The locks after a step of a transaction.
-use Rattle.std.proofs.Common.{◌≡◌, ◌≢◌, ℕ, Bool, true, false, ◌||◌, ◌&&◌, ◌==◌, List, Some, refl, sym, subst, ap, ◌∙◌, inl, inr}
+use Rattle.std.proofs.Common.{◌≡◌, ◌≢◌, ℕ, ◌||◌, ◌&&◌, ◌==◌, List, Some, refl, sym, ap, ◌∙◌, inl, inr}
 use Rattle.std.specs.Option.{unwrap_or}
 use Rattle.std.proofs.lemmas.Bool.{cases_eq, eq-eqb, ne_eqb}
 use Rattle.store_model.specs.Worlds.{World, Transaction, find_transaction, transaction, fresh_transaction}
 use Rattle.store_model.specs.Causes.{has_page}
 use Rattle.store_model.specs.Steps.{with_page, with_transaction}
 use Rattle.page_locks.specs.Holding.{LockTable, AddsShared, AddsExclusive}
-use Rattle.transactions.specs.Standing.{wrote, AreLocks}
+use Rattle.transactions.specs.Standing.{AreLocks}
 use Rattle.transactions.proofs.Numbers.{KeepsNumber, transaction_found, find-with_same, find-with_other}
 use Rattle.transactions.proofs.Entries.{or_false, has_page-with_page, numbers-with_transaction}
 

@@ -1,7 +1,7 @@
 -- A new object in a view.
-use Rattle.std.proofs.Common.{◌≡◌, ◌≢◌, ℕ, zero, suc, ◌+◌, ◌<◌, Bool, true, false, not, ◌&&◌, ◌||◌, ◌==◌, cond, List, [], ◌∷◌, ◌++◌, map, length, Option, Some, None, replicate, refl, sym, subst, ap, ◌∙◌, ◌⊎◌, inl, inr, arith, set, get_or, append-nil}
+use Rattle.std.proofs.Common.{◌≡◌, ◌≢◌, ℕ, ◌+◌, ◌<◌, Bool, true, false, not, ◌&&◌, ◌||◌, ◌==◌, cond, List, [], ◌∷◌, ◌++◌, map, length, Some, None, replicate, refl, sym, subst, ap, ◌∙◌, inl, inr, arith, set, get_or, append-nil}
 use Rattle.std.specs.List.{filter, list_any, AllByRecursion}
-use Rattle.std.proofs.lemmas.Bool.{and_parts, and_from, cases_Bool, eqb-true, eq-eqb, or_parts, cond-true, cond-false, false_from_ne_true, and_left, and_right, ne_eqb, not-false, not-true}
+use Rattle.std.proofs.lemmas.Bool.{and_parts, and_from, eq-eqb, or_parts, false_from_ne_true, and_left, and_right, ne_eqb, not-true}
 use Rattle.std.proofs.lemmas.List.{length-map}
 use Rattle.std.proofs.lemmas.List.Elements.{filter-append}
 use Rattle.object_graph.specs.NameParts.{NameParts}
@@ -9,15 +9,15 @@ use Rattle.object_graph.specs.SlotParts.{SlotParts}
 use Rattle.object_graph.specs.Names.{name_eq}
 use Rattle.object_graph.specs.declared.names.Object.{Object}
 use Rattle.object_graph.specs.Graphs.{is_at, objects_at, has_name, has_object}
-use Rattle.store_model.specs.Worlds.{World, Transaction, Write, link, assign, view, with_writes, written_by, new_object, starts, is_freed, is_unfreed, slots_of, fields_of, find_transaction, transaction}
-use Rattle.store_model.specs.Images.{unfreed_at, shown_slot, shown_of, shown_in, slot_with}
+use Rattle.store_model.specs.Worlds.{World, Transaction, Write, link, assign, view, with_writes, written_by, new_object, starts, is_unfreed, slots_of, fields_of, find_transaction}
+use Rattle.store_model.specs.Images.{unfreed_at, shown_slot, shown_in, slot_with}
 use Rattle.page_image.specs.Slots.{has_room, taken}
 use Rattle.store_model.specs.Causes.{is_occupied, name_at, has_page}
 use Rattle.store_model.specs.Steps.{makes}
 use Rattle.store_model.specs.Lawful.{IsKnownWrite, IsLawfulTransaction, IsLawful}
 use Rattle.object_graph.proofs.Members.{In, in_any, in_filter, filter_in, each_in, each_from, or_left}
 use Rattle.transactions.proofs.Numbers.{transaction_found, found_in_list}
-use Rattle.object_graph.proofs.Paths.{name_eq_same, name_eq_refl, has_name_in}
+use Rattle.object_graph.proofs.Paths.{name_eq_same, has_name_in}
 use Rattle.transactions.proofs.Shown.{same_shown, set-shown, get-shown}
 use Rattle.transactions.proofs.Viewed.{objects_at-view, shown_from_place, written_name, written_by_other}
 use Rattle.store_model.proofs.Cuts.{next_name_is_new}
@@ -46,8 +46,8 @@ pub free_place : (w : World) (txn : ℕ) (t : Transaction) (fields page slot : �
     → has_room (shown_slot fields (view w t) w.freed page slot) ≡ true → IsFreePlace w t page slot
 free_place w txn t fields page slot lawful found e =
     let occupied : (unfree || list_any (is_at page slot) t.own) ≡ false =
-        ap (λ (x : Transaction). unfree || list_any (is_at page slot) x.own) (sym (transaction_found w txn t found))
-        ∙ not-true (is_occupied w txn page slot) (sym (taken_as_free w txn t fields page slot lawful found) ∙ e) in
+    ap (λ (x : Transaction). unfree || list_any (is_at page slot) x.own) (sym (transaction_found w txn t found))
+    ∙ not-true (is_occupied w txn page slot) (sym (taken_as_free w txn t fields page slot lawful found) ∙ e) in
     let parts = or_parts unfree (list_any (is_at page slot) t.own) occupied in
     record {
       unfreed = nothing_in (unfreed_at w.graph w.freed page slot) (λ o m.
@@ -113,21 +113,26 @@ made_here w txn t page slot lawful found free =
   where
     name : NameParts
     name = name_at w.graph page slot
+
     lt : IsLawfulTransaction w.graph w.freed (starts w) t
     lt = each_in (IsLawfulTransaction w.graph w.freed (starts w)) w.transactions t lawful.orderly.transactions (found_in_list (λ (t : Transaction). t.number == txn) w.transactions t found).0
+
     at : is_at page slot (name_at w.graph page slot) ≡ true
     at = and_from (page == page) (slot == slot) (eq-eqb page page refl) (eq-eqb slot slot refl)
+
     unfreed : not (has_name w.freed (name_at w.graph page slot)) ≡ true
     unfreed = ap not (false_from_ne_true (has_name w.freed (name_at w.graph page slot)) (λ f.
         let there : has_object w.graph (name_at w.graph page slot) ≡ true = each_in (λ name. has_object w.graph name ≡ true) w.freed (name_at w.graph page slot) lawful.orderly.freed_there (has_name_in w.freed (name_at w.graph page slot) f) in
         let new : has_object w.graph (name_at w.graph page slot) ≡ false = next_name_is_new w (name_at w.graph page slot) lawful.orderly.counted refl in
         let z : true ≡ false = sym there ∙ new in cc))
+
     unwritten : AllByRecursion (λ x. name_eq (name_at w.graph page slot) (written_name x) ≡ false) t.writes
     unwritten = each_from (λ x. name_eq (name_at w.graph page slot) (written_name x) ≡ false) t.writes (λ x m. false_from_ne_true (name_eq (name_at w.graph page slot) (written_name x)) (λ e.
         let k = known_write_name t x (each_in (IsKnownWrite t) t.writes x lt.writes m) in
         let same = name_eq_same (name_at w.graph page slot) (written_name x) e in
         let y : has_name t.known (name_at w.graph page slot) ≡ true = subst (λ n. has_name t.known n ≡ true) (sym same) k in
         let z : true ≡ false = sym y ∙ next_is_unknown w t page slot lawful lt free in cc))
+
     next : 1 + length (objects_at w.graph page slot) ≡ (shown_slot (fields_of w page) (view w t) w.freed page slot).generation + 1
     next = let g = free_generation w t page slot free in omega arith
 
@@ -148,4 +153,4 @@ pub new_on_another_page : (w : World) (t : Transaction) (page slot other : ℕ) 
 new_on_another_page w t page slot other ne =
     same_shown (slots_of w other) (fields_of w other) (view w (makes (name_at w.graph page slot) t)) (view w t) w.freed w.freed other
     (λ s l. shown_from_place (fields_of w other) (view w (makes (name_at w.graph page slot) t)) (view w t) w.freed other s
-        (made_elsewhere w t (name_at w.graph page slot) other s (and_left (page == other) (slot == s) (ne_eqb page other (λ f. ne (sym f))))))
+    (made_elsewhere w t (name_at w.graph page slot) other s (and_left (page == other) (slot == s) (ne_eqb page other (λ f. ne (sym f))))))

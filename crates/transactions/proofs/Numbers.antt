@@ -1,7 +1,7 @@
 -- Open transactions by their numbers.
-use Rattle.std.proofs.Common.{◌≡◌, ◌≢◌, ℕ, zero, suc, ◌+◌, ◌<◌, ◌≤◌, Bool, true, false, not, ◌&&◌, ◌==◌, cond, List, [], ◌∷◌, ◌++◌, map, length, Option, Some, None, refl, sym, subst, ap, ◌∙◌, ◌⊎◌, inl, inr, arith, nat_lt}
-use Rattle.std.specs.List.{filter, find, AllByRecursion}
-use Rattle.std.specs.Option.{option_map, unwrap_or, is_some}
+use Rattle.std.proofs.Common.{◌≡◌, ◌≢◌, ℕ, ◌<◌, ◌≤◌, Bool, true, false, not, ◌&&◌, ◌==◌, cond, List, [], ◌∷◌, map, length, Option, Some, None, refl, sym, subst, ap, ◌∙◌, inl, inr, arith, nat_lt}
+use Rattle.std.specs.List.{filter, find}
+use Rattle.std.specs.Option.{option_map, unwrap_or}
 use Rattle.std.proofs.lemmas.Bool.{and_parts, and_from, cases_Bool, eqb-true, eq-eqb, ne_eqb, cond-false, cond-true, ltb-true, ltb-false, not-true, eqb-false}
 use Rattle.object_graph.specs.Slots.{least, least_with}
 use Rattle.store_model.specs.Worlds.{World, Transaction, find_transaction, transaction, fresh_transaction}
@@ -11,7 +11,6 @@ use Rattle.object_graph.proofs.Members.{In, in_filter, filter_in, in_map, map_in
 
 abbrev pub KeepsNumber : (Transaction → Transaction) → Type 0
 KeepsNumber change = (t : Transaction) → (change t).number ≡ t.number
-
 
 find-changed : (n m : ℕ) (change : Transaction → Transaction) (ts : List Transaction) → KeepsNumber change
     → find (λ t. t.number == m) (map (λ t. cond (t.number == n) (change t) t) ts)
@@ -24,6 +23,7 @@ find-changed n m change (t ∷ ts) kept =
     kept_by : (b : Bool) → (cond b (change t) t).number ≡ t.number
     kept_by true = kept t
     kept_by false = refl
+
     one : find (λ t. t.number == m) (map (λ t. cond (t.number == n) (change t) t) ts) ≡ option_map (λ t. cond (t.number == n) (change t) t) (find (λ t. t.number == m) ts)
         → (b : Bool) → cond b (Some (cond (t.number == n) (change t) t)) (find (λ t. t.number == m) (map (λ t. cond (t.number == n) (change t) t) ts))
         ≡ option_map (λ t. cond (t.number == n) (change t) t) (cond b (Some t) (find (λ t. t.number == m) ts))
@@ -166,9 +166,9 @@ holder_some w n test t m ne e h =
     least_is (map (λ t. t.number) (filter picks w.transactions)) t.number
     (map_in (λ (t : Transaction). t.number) (filter picks w.transactions) t (filter_in picks w.transactions t m (and_from (not (t.number == n)) (test t) (ap not (ne_eqb t.number n ne)) e)))
     (λ k i.
-        let a = in_map (λ (t : Transaction). t.number) (filter picks w.transactions) k i in
-        let u : Transaction = a.0 in
-        let b = in_filter picks w.transactions u a.1 in
-        let p = and_parts (not (u.number == n)) (test u) b.1 in
-        let l = h u b.0 (eqb-false u.number n (not-true (u.number == n) p.0)) p.1 in
-        subst (λ j. t.number ≤ j) (sym a.2) l)
+    let a = in_map (λ (t : Transaction). t.number) (filter picks w.transactions) k i in
+    let u : Transaction = a.0 in
+    let b = in_filter picks w.transactions u a.1 in
+    let p = and_parts (not (u.number == n)) (test u) b.1 in
+    let l = h u b.0 (eqb-false u.number n (not-true (u.number == n) p.0)) p.1 in
+    subst (λ j. t.number ≤ j) (sym a.2) l)

@@ -1,7 +1,6 @@
 -- An open transaction for which the entry in the table was found.
-use Rattle.std.proofs.Common.{◌≡◌, ◌≢◌, ℕ, ◌<◌, Bool, true, false, ◌||◌, ◌==◌, List, [], ◌∷◌, ◌++◌, map, reverse, Option, Some, None, refl, sym, subst, ap, ◌∙◌, inl, inr}
-use Rattle.std.specs.List.{list_any, AllByRecursion}
-use Rattle.std.proofs.lemmas.Bool.{cases_Bool, eqb-true, eq-eqb}
+use Rattle.std.proofs.Common.{◌≡◌, ℕ, ◌<◌, Bool, true, ◌||◌, ◌==◌, List, [], ◌∷◌, ◌++◌, length, map, reverse, Some, None, refl, sym, subst, ap, ◌∙◌, inl, inr, arith}
+use Rattle.std.specs.List.{list_any}
 use Rattle.std.proofs.lemmas.List.{reverse-append}
 use Rattle.object_graph.specs.NameParts.{NameParts}
 use Rattle.object_graph.specs.declared.names.Object.{Object}
@@ -10,13 +9,13 @@ use Rattle.object_graph.proofs.Members.{In, in_any, each_in, map_in, append_left
 use Rattle.object_graph.proofs.Paths.{has_name_in, has_object_in}
 use Rattle.store_model.specs.Worlds.{World, Transaction, find_transaction, view, starts}
 use Rattle.store_model.specs.Causes.{has_page}
-use Rattle.store_model.specs.Lawful.{IsLawful, IsLawfulTransaction}
+use Rattle.store_model.specs.Lawful.{IsLawfulTransaction}
 use Rattle.store_model.proofs.Orders.{IsPlacedName, lawful_one, placed_one}
 use Rattle.page_locks.specs.Holding.{is_admitted, numbers}
 use Rattle.page_locks.specs.declared.locks.Held.{Held}
 use Rattle.transactions.specs.Tables.{OpenParts, entry_of}
 use Rattle.transactions.specs.Standing.{TransactionsParts, numbers_of, IsEntry, AreAlike, IsReady}
-use Rattle.transactions.proofs.Numbers.{found_in_list}
+use Rattle.transactions.proofs.Numbers.{found_in_list, transaction_found}
 use Rattle.transactions.proofs.Seen.{IsThere, known_object, own_or_there}
 use Rattle.transactions.proofs.Entries.{alike_some, alike_none}
 
@@ -83,3 +82,17 @@ open_admitted s w txn e o =
     let member : In o.of.number (numbers_of w) = in_reverse (map (λ (t : Transaction). t.number) w.transactions) o.of.number (map_in (λ (t : Transaction). t.number) w.transactions o.of found.0) in
     sym (any-map (λ n. n == txn) (λ h. h.txn) s.locks.held)
     ∙ in_any (λ n. n == txn) (numbers s.locks.held) o.of.number (subst (λ ns. In o.of.number ns) (sym o.ready.stands.locks.admitted) member) found.1
+
+-- ---- the pages noted as written are pages of the store
+
+pub wrote_within : (s : TransactionsParts) (w : World) (txn : ℕ) (e : OpenParts) (page : ℕ) → IsOpened s w txn e → has_page e.written page ≡ true → page < length s.frames
+wrote_within s w txn e page o h =
+    let p = o.ready.stands.frames.written txn page (ap (λ (x : Transaction). has_page x.pages_written page) (transaction_found w txn o.of o.found) ∙ (sym (o.entry.written.each page) ∙ h)) in
+    let n = o.ready.stands.frames.count in
+    omega arith
+
+-- a page below the count of frames is one of the store
+pub page_below : (s : TransactionsParts) (w : World) (page count : ℕ) → IsReady s w → page < count → count ≡ length s.frames → page < w.pages
+page_below s w page count ready low is =
+    let n = ready.stands.frames.count in
+    omega arith

@@ -1,17 +1,16 @@
 -- What a get or a number reads, and does.
-use Rattle.std.proofs.Common.{◌≡◌, ◌≢◌, ℕ, ◌<◌, Bool, true, false, List, [], ◌∷◌, length, Option, Some, None, refl, sym, subst, ap, ◌∙◌, arith, get_or}
+use Rattle.std.proofs.Common.{◌≡◌, ℕ, ◌<◌, Bool, true, false, [], ◌∷◌, length, Option, Some, None, refl, sym, subst, ap, ◌∙◌, arith, get_or}
 use Rattle.std.specs.List.{slice_get}
 use Rattle.std.specs.Option.{option_map, option_and_then, unwrap_or}
 use Rattle.std.proofs.lemmas.Option.{slice_get-get_or}
 use Rattle.object_graph.specs.NameParts.{NameParts}
 use Rattle.object_graph.specs.declared.names.Object.{Object}
 use Rattle.object_graph.specs.declared.calls.Call.TheVariants.{Get, Number}
-use Rattle.object_graph.specs.declared.calls.Refusal.{Refusal}
 use Rattle.object_graph.specs.declared.calls.Refusal.TheVariants.{Busy, KnowsTooMany}
 use Rattle.object_graph.specs.Graphs.{has_name, object_named}
 use Rattle.store_model.specs.Worlds.{World, Transaction, nothing, view, transaction}
 use Rattle.store_model.specs.Causes.{first_met, first_refusal, when, stranger, bad_field, busy_to_read, knows_too_many_for, field_seen, number_seen}
-use Rattle.store_model.specs.Steps.{with_page, with_target, with_transaction, reads_page}
+use Rattle.store_model.specs.Steps.{with_target, with_transaction, reads_page}
 use Rattle.page_image.specs.Slots.{fresh_slot}
 use Rattle.page_image.specs.Pages.{object_of, object_at}
 use Rattle.page_buffer.specs.Frames.{frame_at}

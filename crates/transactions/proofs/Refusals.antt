@@ -1,5 +1,5 @@
 -- The causes of refusals, as the table and the locks show them.
-use Rattle.std.proofs.Common.{◌≡◌, ◌≢◌, ℕ, ◌<◌, ◌≤◌, Bool, true, false, not, ◌&&◌, ◌||◌, ◌==◌, List, [], ◌∷◌, length, Option, Some, None, refl, sym, subst, ap, ◌∙◌, nat_le}
+use Rattle.std.proofs.Common.{◌≡◌, ◌≢◌, ℕ, ◌<◌, ◌≤◌, Bool, true, false, not, ◌&&◌, ◌||◌, ◌==◌, List, ◌∷◌, length, Option, Some, None, refl, sym, subst, ap, ◌∙◌, nat_le}
 use Rattle.std.specs.Option.{is_none, option_map, unwrap_or, MatchOption}
 use Rattle.std.proofs.lemmas.Bool.{eqb-true, eq-eqb, ne_eqb, and_parts, or_parts, and_from, lt-ltb, le-ltb}
 use Rattle.object_graph.specs.NameParts.{NameParts}
@@ -12,7 +12,7 @@ use Rattle.store_model.specs.Limits.{most_written, most_known}
 use Rattle.store_model.specs.Worlds.{World, Transaction, nothing, find_transaction, transaction, fresh_transaction}
 use Rattle.store_model.specs.Causes.{first_met, first_refusal, when, holder, has_page, broken, not_open, stranger, strange_target, bad_field, no_page, busy_to_read, busy_to_write, too_wide, knows_too_many, knows_too_many_for}
 use Rattle.store_model.specs.Replies.{AllowsReply, is_free}
-use Rattle.page_locks.specs.Holding.{shares, excludes, is_in_way, IsNobody, IsLeast}
+use Rattle.page_locks.specs.Holding.{excludes, is_in_way, IsNobody, IsLeast}
 use Rattle.transactions.specs.Tables.{OpenParts, is_wide, knows_target, is_full_for}
 use Rattle.transactions.specs.Standing.{TransactionsParts, wrote, IsReady}
 use Rattle.transactions.proofs.Numbers.{transaction_found, found_in_list, found_at, holder_none, holder_some}
@@ -120,8 +120,8 @@ holder_none_by : (s : TransactionsParts) (w : World) (to_write : Bool) (txn page
     → IsNobody (is_in_way to_write s.locks.held txn page) → holder w txn (in_way_of to_write page) ≡ None
 holder_none_by s w to_write txn page r none =
     holder_none w txn (in_way_of to_write page) (λ u m ne.
-        ap (in_way_of to_write page) (sym (transaction_found w u.number u (found_at w u r.lawful.orderly.distinct m)))
-        ∙ nobody_in_way s w to_write txn page u.number r none ne)
+    ap (in_way_of to_write page) (sym (transaction_found w u.number u (found_at w u r.lawful.orderly.distinct m)))
+    ∙ nobody_in_way s w to_write txn page u.number r none ne)
 
 no_page_held : (to_write : Bool) → (to_write && false) ≡ false
 no_page_held true = refl
@@ -133,6 +133,7 @@ holder_some_by s w to_write txn page m r least = by (find_transaction w m) refl
   where
     passes : (not (m == txn) ≡ true) × (in_way_of to_write page (transaction w m) ≡ true)
     passes = and_parts (not (m == txn)) (in_way_of to_write page (transaction w m)) (sym (in_way_same s w to_write txn page m r) ∙ least.passes)
+
     by : (o : Option Transaction) → find_transaction w m ≡ o → holder w txn (in_way_of to_write page) ≡ Some m
     by None e =
         let fresh : transaction w m ≡ fresh_transaction m = ap (λ o. unwrap_or o (fresh_transaction m)) e in
@@ -146,11 +147,11 @@ holder_some_by s w to_write txn page m r least = by (find_transaction w m) refl
         (λ f. let off : (m == txn) ≡ true = eq-eqb m txn (sym number ∙ f) in let on = passes.0 in let z : not (m == txn) ≡ false = ap not off in cc)
         (ap (in_way_of to_write page) (sym is) ∙ passes.1)
         (λ u i ne test.
-            subst (λ k. k ≤ u.number) (sym number)
-            (least.least u.number
-            (in_way_same s w to_write txn page u.number r
-            ∙ and_from (not (u.number == txn)) (in_way_of to_write page (transaction w u.number)) (ap not (ne_eqb u.number txn ne))
-            (ap (in_way_of to_write page) (transaction_found w u.number u (found_at w u r.lawful.orderly.distinct i)) ∙ test))))
+        subst (λ k. k ≤ u.number) (sym number)
+        (least.least u.number
+        (in_way_same s w to_write txn page u.number r
+        ∙ and_from (not (u.number == txn)) (in_way_of to_write page (transaction w u.number)) (ap not (ne_eqb u.number txn ne))
+        (ap (in_way_of to_write page) (transaction_found w u.number u (found_at w u r.lawful.orderly.distinct i)) ∙ test))))
         ∙ ap (λ k. Some k) number
 
 -- the cause: met by the least of them, or not

@@ -1,62 +1,35 @@
 -- What a page shows of a known name, and of a write to it.
-use Rattle.std.proofs.Common.{◌≡◌, ◌≢◌, ℕ, zero, suc, ◌+◌, ◌<◌, ◌≤◌, Bool, true, false, not, ◌&&◌, ◌||◌, ◌==◌, cond, List, [], ◌∷◌, ◌++◌, map, length, Option, Some, None, refl, sym, subst, ap, ◌∙◌, ◌⊎◌, inl, inr, arith, get_or, set, append-nil, get_or-set_same, get_or-set_other, length-append}
-use Rattle.std.specs.List.{filter, find, list_any, AllByRecursion, slice_set}
+use Rattle.std.proofs.Common.{◌≡◌, ℕ, zero, suc, ◌<◌, Bool, true, false, not, ◌==◌, cond, List, [], ◌∷◌, ◌++◌, map, length, Some, None, refl, sym, subst, ap, ◌∙◌, ◌⊎◌, inl, inr, arith}
+use Rattle.std.specs.List.{filter, find, AllByRecursion}
 use Rattle.std.specs.Bool.{IsTrue}
-use Rattle.std.proofs.lemmas.Bool.{and_parts, and_from, cases_Bool, cases_eq, eqb-true, eq-eqb, cond-false, cond-true, not-true, not-false, or_parts}
+use Rattle.std.proofs.lemmas.Bool.{and_parts, and_from, cases_Bool, eqb-true, eq-eqb}
 use Rattle.std.proofs.lemmas.List.Elements.{filter-append}
-use Rattle.std.proofs.lemmas.List.{map-append, length-map, get_or-map, same_lists, length-set, get_or_append_left}
-use Rattle.std.proofs.Math.Seq.{get_or-append_seam}
+use Rattle.std.proofs.lemmas.List.{map-append}
 use Rattle.object_graph.specs.NameParts.{NameParts}
-use Rattle.object_graph.specs.SlotParts.{SlotParts}
 use Rattle.object_graph.specs.Names.{name_eq}
 use Rattle.object_graph.specs.declared.names.Object.{Object}
-use Rattle.object_graph.specs.Graphs.{is_at, objects_at, has_name, has_object, object_named, IsReachedFrom}
+use Rattle.object_graph.specs.Graphs.{is_at, objects_at, has_name, has_object, object_named}
 use Rattle.object_graph.specs.Slots.{below}
-use Rattle.store_model.specs.Worlds.{World, Transaction, Write, link, assign, view, with_writes, written_by, new_object, starts, fields_of, is_unfreed, IsHeldBy, IsOutOfReach}
-use Rattle.store_model.specs.Causes.{has_page, name_at}
-use Rattle.store_model.specs.Lawful.{HaveFields, IsKnownWrite, IsOwn, IsLawfulTransaction, CountsUp, OnlyLastUnfreed, generations_at, IsLawful, IsCovered, IsCoveredPath}
-use Rattle.object_graph.proofs.Members.{In, in_filter, filter_in, each_in, in_map, map_in, in_append, append_left, append_right, in_any}
-use Rattle.store_model.proofs.Reach.{name-with_writes, name-written_by}
-use Rattle.object_graph.proofs.Paths.{name_eq_same, name_eq_refl, has_name_in, in_has_name, has_object_in}
+use Rattle.store_model.specs.Worlds.{World, Transaction, view, with_writes, new_object, starts, fields_of, is_unfreed, IsHeldBy, IsOutOfReach}
+use Rattle.store_model.specs.Lawful.{HaveFields, IsOwn, IsLawfulTransaction, CountsUp, OnlyLastUnfreed, IsLawful, IsCovered, IsCoveredPath}
+use Rattle.object_graph.proofs.Members.{In, in_filter, filter_in, each_in, in_map, map_in, in_append, append_right, in_any}
+use Rattle.store_model.proofs.Reach.{name-with_writes}
+use Rattle.object_graph.proofs.Paths.{name_eq_same, name_eq_refl, has_name_in, has_object_in}
 use Rattle.store_model.proofs.Locks.{name_in_view}
 use Rattle.store_model.proofs.Cuts.{next_name_is_new}
+use Rattle.store_model.proofs.Shown.{AreApart, apart_below, last_at}
 use Rattle.store_model.proofs.Fields.{view_has_fields}
 use Rattle.store_model.specs.Images.{unfreed_at}
 use Rattle.transactions.proofs.Viewed.{filter-map_kept, objects_at-view, place_of}
 
 -- ---- at most one unfreed object at a place
 
-abbrev pub AreDistinct : List ℕ → Type 0
-AreDistinct [] = Unit {0}
-AreDistinct (x ∷ xs) = (In x xs → ⊥) × AreDistinct xs
-
-distinct-append : (xs : List ℕ) (y : ℕ) → AreDistinct xs → (In y xs → ⊥) → AreDistinct (xs ++ y ∷ [])
-distinct-append [] y d n = (λ i. i, tt)
-distinct-append (x ∷ xs) y d n = (
-  λ i. elim (in_append xs (y ∷ []) x i) [ inl a ↦ d.0 a | inr b ↦ elim b [ inl e ↦ n (inl (sym e)) | inr z ↦ z ] ],
-  distinct-append xs y d.1 (λ i. n (inr i)),
-)
-
-member_of_below : (n j : ℕ) → In j (below n) → j < n
-member_of_below zero j m = absurd m
-member_of_below (suc n) j m = elim (in_append (below n) (n ∷ []) j m) [
-  | inl a ↦ let h = member_of_below n j a in omega arith
-  | inr b ↦ elim b [ inl e ↦ omega arith | inr z ↦ absurd z ]
-]
-
-distinct_counts : (n : ℕ) → AreDistinct (map suc (below n))
-distinct_counts zero = tt
-distinct_counts (suc n) =
-    subst AreDistinct (sym (map-append suc (below n) (n ∷ [])))
-    (distinct-append (map suc (below n)) (suc n) (distinct_counts n) (λ i.
-        let a = in_map suc (below n) (suc n) i in let l = member_of_below n a.0 a.1 in let e : suc n ≡ suc a.0 = a.2 in absurd (omega arith)))
-
 pub nothing_in : {A : Type 0} (ys : List A) → ((y : A) → In y ys → ⊥) → ys ≡ []
 nothing_in [] h = refl
 nothing_in (y ∷ ys) h = absurd (h y (inl refl))
 
 -- of a list with distinct values, at most one has a given value
-pub one_of_value : (value : Object → ℕ) (test : Object → Bool) (n : ℕ) (xs : List Object) (o : Object) → AreDistinct (map value xs)
+pub one_of_value : (value : Object → ℕ) (test : Object → Bool) (n : ℕ) (xs : List Object) (o : Object) → AreApart (map value xs)
     → ((x : Object) → In x xs → test x ≡ true → value x ≡ n) → In o (filter test xs) → filter test xs ≡ o ∷ []
 one_of_value value test n [] o d h m = absurd m
 one_of_value value test n (x ∷ xs) o d h m = by (λ k. one_of_value value test n xs o d.1 (λ y i. h y (inr i)) k) (test x) refl m
@@ -65,9 +38,9 @@ one_of_value value test n (x ∷ xs) o d h m = by (λ k. one_of_value value test
         → In o (cond b (x ∷ filter test xs) (filter test xs)) → cond (test x) (x ∷ filter test xs) (filter test xs) ≡ o ∷ []
     by ih true e k =
         let none : filter test xs ≡ [] = nothing_in (filter test xs) (λ y i.
-            let a = in_filter test xs y i in
-            let same : value y ≡ value x = h y (inr a.0) a.1 ∙ sym (h x (inl refl) e) in
-            d.0 (subst (λ v. In v (map value xs)) same (map_in value xs y a.0))) in
+        let a = in_filter test xs y i in
+        let same : value y ≡ value x = h y (inr a.0) a.1 ∙ sym (h x (inl refl) e) in
+        d.0 (subst (λ v. In v (map value xs)) same (map_in value xs y a.0))) in
         ap (λ b. cond b (x ∷ filter test xs) (filter test xs)) e
         ∙ elim k [
           | inl s ↦ ap (λ ys. x ∷ ys) none ∙ ap (λ z. z ∷ []) (sym s)
@@ -79,13 +52,8 @@ pub alone_at_place : (w : World) (page slot : ℕ) (o : Object) → CountsUp w.g
     → In o (unfreed_at w.graph w.freed page slot) → unfreed_at w.graph w.freed page slot ≡ o ∷ []
 alone_at_place w page slot o counts last m =
     one_of_value (λ o. o.name.generation) (is_unfreed w.freed) (length (objects_at w.graph page slot)) (objects_at w.graph page slot) o
-    (subst AreDistinct (sym (counts page slot)) (distinct_counts (length (objects_at w.graph page slot))))
-    (λ x i e.
-        let k = place_of page slot w.graph x i in
-        let a = in_filter (λ o. is_at page slot o.name) w.graph x i in
-        each_in (λ o. o.name.generation ≡ length (objects_at w.graph o.name.page o.name.slot)) (filter (is_unfreed w.freed) w.graph) x last (filter_in (is_unfreed w.freed) w.graph x a.0 e)
-        ∙ (ap (λ p. length (objects_at w.graph p x.name.slot)) k.0 ∙ ap (λ s. length (objects_at w.graph page s)) k.1))
-    m
+    (subst AreApart (sym (counts page slot)) (apart_below (length (objects_at w.graph page slot))))
+    (λ x i e. last_at w.graph w.freed page slot x last (filter_in (is_unfreed w.freed) (objects_at w.graph page slot) x i e)) m
 
 -- ---- a known name is there
 
@@ -139,7 +107,7 @@ unfreed_at-view w t page slot =
 pub at_own_place : (name : NameParts) → is_at name.page name.slot name ≡ true
 at_own_place name = and_from (name.page == name.page) (name.slot == name.slot) (eq-eqb name.page name.page refl) (eq-eqb name.slot name.slot refl)
 
-none_pass : (test : Object → Bool) (xs : List Object) → ((x : Object) → In x xs → test x ≡ false) → filter test xs ≡ []
+pub none_pass : (test : Object → Bool) (xs : List Object) → ((x : Object) → In x xs → test x ≡ false) → filter test xs ≡ []
 none_pass test [] h = refl
 none_pass test (x ∷ xs) h = ap (λ b. cond b (x ∷ filter test xs) (filter test xs)) (h x (inl refl)) ∙ none_pass test xs (λ y i. h y (inr i))
 
@@ -151,8 +119,8 @@ nothing_unfreed w t m page slot lawful i =
     let b = and_parts (m.page == page) (m.slot == slot) a.1 in
     let own = each_in (IsOwn w.graph w.freed t) t.own m lawful.own a.0 in
     let free : AllByRecursion (λ o. IsTrue (has_name w.freed o.name)) (objects_at w.graph page slot) =
-        subst (λ p. AllByRecursion (λ o. IsTrue (has_name w.freed o.name)) (objects_at w.graph p slot)) (eqb-true m.page page b.0)
-        (subst (λ s. AllByRecursion (λ o. IsTrue (has_name w.freed o.name)) (objects_at w.graph m.page s)) (eqb-true m.slot slot b.1) own.free) in
+    subst (λ p. AllByRecursion (λ o. IsTrue (has_name w.freed o.name)) (objects_at w.graph p slot)) (eqb-true m.page page b.0)
+    (subst (λ s. AllByRecursion (λ o. IsTrue (has_name w.freed o.name)) (objects_at w.graph m.page s)) (eqb-true m.slot slot b.1) own.free) in
     none_pass (is_unfreed w.freed) (objects_at w.graph page slot) (λ x j. ap not (each_in (λ o. IsTrue (has_name w.freed o.name)) (objects_at w.graph page slot) x free j))
 
 pub own_unfreed : (w : World) (t : Transaction) (m : NameParts) → IsLawful w → IsLawfulTransaction w.graph w.freed (starts w) t → In m t.own → has_name w.freed m ≡ false
@@ -170,16 +138,20 @@ known_object w t name lawful m known =
   where
     lt : IsLawfulTransaction w.graph w.freed (starts w) t
     lt = each_in (IsLawfulTransaction w.graph w.freed (starts w)) w.transactions t lawful.orderly.transactions m
+
     unfreed_name : has_name w.freed name ≡ false
     unfreed_name = known_unfreed w t name lawful m known
+
     there_at : has_object w.graph name ≡ true → (o : Object) × In o (unfreed_at w.graph w.freed name.page name.slot) × (o.name ≡ name)
     there_at h =
-        let a = has_object_in w.graph name h in
-        (a.0,
-         filter_in (is_unfreed w.freed) (objects_at w.graph name.page name.slot) a.0
-         (filter_in (λ (o : Object). is_at name.page name.slot o.name) w.graph a.0 a.1 (subst (λ (n : NameParts). is_at name.page name.slot n ≡ true) (sym a.2) (at_own_place name)))
-         (ap not (ap (has_name w.freed) a.2 ∙ unfreed_name)),
-         a.2)
+        let a = has_object_in w.graph name h in (
+          a.0,
+          filter_in (is_unfreed w.freed) (objects_at w.graph name.page name.slot) a.0
+              (filter_in (λ (o : Object). is_at name.page name.slot o.name) w.graph a.0 a.1 (subst (λ (n : NameParts). is_at name.page name.slot n ≡ true) (sym a.2) (at_own_place name)))
+              (ap not (ap (has_name w.freed) a.2 ∙ unfreed_name)),
+          a.2,
+        )
+
     by : (names : List NameParts) → filter (is_at name.page name.slot) t.own ≡ names → length names < 2 → IsThere w t name
     by [] e few = elim (own_or_there w t name lt known) [
       | inl own ↦ absurd (subst (λ ns. In name ns) e (filter_in (is_at name.page name.slot) t.own name (has_name_in t.own name own) (at_own_place name)))

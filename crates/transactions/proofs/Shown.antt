@@ -1,8 +1,7 @@
 -- The image of a page, slot by slot.
-use Rattle.std.proofs.Common.{◌≡◌, ◌≢◌, ℕ, zero, suc, ◌<◌, List, [], ◌∷◌, ◌++◌, map, length, refl, sym, ap, ◌∙◌, inl, inr, arith, get_or, set, get_or-set_same, get_or-set_other, length-append}
+use Rattle.std.proofs.Common.{◌≡◌, ◌≢◌, ℕ, ◌<◌, List, map, length, sym, ap, ◌∙◌, inl, inr, arith, get_or, set, get_or-set_same, get_or-set_other}
 use Rattle.std.proofs.lemmas.Bool.{cases_eq}
-use Rattle.std.proofs.lemmas.List.{length-map, get_or-map, same_lists, length-set, get_or_append_left}
-use Rattle.std.proofs.Math.Seq.{get_or-append_seam}
+use Rattle.std.proofs.lemmas.List.{same_lists, length-set}
 use Rattle.object_graph.specs.NameParts.{NameParts}
 use Rattle.object_graph.specs.SlotParts.{SlotParts}
 use Rattle.object_graph.specs.declared.names.Object.{Object}
@@ -17,14 +16,14 @@ set-over f g n k x h is others =
     same_lists (set (map f (below n)) k x) (map g (below n))
     (length-set (map f (below n)) k x ∙ (length-map_below f n ∙ sym (length-map_below g n)))
     (λ j d lt.
-        let l1 = length-set (map f (below n)) k x in
-        let l2 = length-map_below f n in
-        let below_n : j < n = omega arith in
-        let inside : k < length (map f (below n)) = omega arith in
-        elim (cases_eq j k) [
-          | inl e ↦ ap (λ i. get_or (set (map f (below n)) k x) i d) e ∙ (get_or-set_same (map f (below n)) k x d inside ∙ (sym is ∙ (ap g (sym e) ∙ sym (get-map_below g n j d below_n))))
-          | inr ne ↦ get_or-set_other (map f (below n)) k j x d ne ∙ (get-map_below f n j d below_n ∙ (sym (others j below_n ne) ∙ sym (get-map_below g n j d below_n)))
-        ])
+    let l1 = length-set (map f (below n)) k x in
+    let l2 = length-map_below f n in
+    let below_n : j < n = omega arith in
+    let inside : k < length (map f (below n)) = omega arith in
+    elim (cases_eq j k) [
+      | inl e ↦ ap (λ i. get_or (set (map f (below n)) k x) i d) e ∙ (get_or-set_same (map f (below n)) k x d inside ∙ (sym is ∙ (ap g (sym e) ∙ sym (get-map_below g n j d below_n))))
+      | inr ne ↦ get_or-set_other (map f (below n)) k j x d ne ∙ (get-map_below f n j d below_n ∙ (sym (others j below_n ne) ∙ sym (get-map_below g n j d below_n)))
+    ])
 
 -- ---- the image
 

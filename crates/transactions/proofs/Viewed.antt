@@ -1,24 +1,19 @@
 -- What a transaction's view has at a place.
-use Rattle.std.proofs.Common.{◌≡◌, ◌≢◌, ℕ, zero, suc, ◌+◌, ◌<◌, Bool, true, false, not, ◌&&◌, ◌||◌, ◌==◌, cond, List, [], ◌∷◌, ◌++◌, map, length, Option, Some, None, refl, sym, subst, ap, ◌∙◌, ◌⊎◌, inl, inr, arith, get_or, set, append-nil}
-use Rattle.std.specs.List.{filter, find, list_any, AllByRecursion, slice_set}
-use Rattle.std.specs.Bool.{IsTrue}
-use Rattle.std.proofs.lemmas.Bool.{and_parts, and_from, cases_Bool, eqb-true, eq-eqb, cond-false, cond-true, not-true}
+use Rattle.std.proofs.Common.{◌≡◌, ℕ, Bool, true, false, not, ◌==◌, cond, List, [], ◌∷◌, ◌++◌, map, length, refl, sym, ap, ◌∙◌, inl, inr}
+use Rattle.std.specs.List.{filter, slice_set}
+use Rattle.std.proofs.lemmas.Bool.{and_parts, cases_Bool, eqb-true, cond-false}
 use Rattle.std.proofs.lemmas.List.Elements.{filter-append}
-use Rattle.std.proofs.lemmas.List.{map-append, length-map}
+use Rattle.std.proofs.lemmas.List.{length-map}
 use Rattle.object_graph.specs.NameParts.{NameParts}
-use Rattle.object_graph.specs.SlotParts.{SlotParts}
 use Rattle.object_graph.specs.Names.{name_eq}
 use Rattle.object_graph.specs.declared.names.Object.{Object}
-use Rattle.object_graph.specs.Graphs.{is_at, objects_at, has_name, has_object, object_named}
-use Rattle.object_graph.specs.Slots.{below}
+use Rattle.object_graph.specs.Graphs.{is_at, objects_at, has_name}
 use Rattle.store_model.specs.Worlds.{World, Transaction, Write, link, assign, view, with_writes, written_by, new_object, is_unfreed}
 use Rattle.store_model.specs.Images.{unfreed_at, shown_slot, slot_with}
-use Rattle.store_model.specs.Causes.{has_page, name_at}
-use Rattle.store_model.specs.Lawful.{IsKnownWrite, IsOwn, IsLawfulTransaction, CountsUp}
-use Rattle.object_graph.proofs.Members.{In, in_filter, filter_in, each_in, in_map, map_in}
+use Rattle.object_graph.proofs.Members.{In, in_filter}
 use Rattle.store_model.proofs.Places.{objects_at-map, map_of_map}
 use Rattle.store_model.proofs.Reach.{name-with_writes, name-written_by}
-use Rattle.object_graph.proofs.Paths.{name_eq_same, name_eq_refl}
+use Rattle.object_graph.proofs.Paths.{name_eq_same}
 
 -- a change that keeps names keeps what is at a place
 pub filter-map_kept : {A : Type 0} (p : A → Bool) (f : A → A) → ((x : A) → p (f x) ≡ p x) → (xs : List A) → filter p (map f xs) ≡ map f (filter p xs)
@@ -79,7 +74,7 @@ place_of page slot graph o m =
     (eqb-true o.name.page page b.0, eqb-true o.name.slot slot b.1)
 
 other_name : (a b : NameParts) → (a ≡ b → ⊥) → name_eq a b ≡ false
-other_name a b ne = elim (cases_Bool (name_eq a b)) [ | inl t ↦ absurd (ne (name_eq_same a b t)) | inr f ↦ f ]
+other_name a b ne = elim (cases_Bool (name_eq a b)) [ inl t ↦ absurd (ne (name_eq_same a b t)) | inr f ↦ f ]
 
 -- a write elsewhere leaves a place as it is shown
 pub write_elsewhere : (fields : ℕ) (write : Write) (graph : List Object) (freed : List NameParts) (page slot : ℕ)
@@ -89,9 +84,9 @@ write_elsewhere fields write graph freed page slot off =
     shown_slot-map fields (written_by write) graph freed page slot (name-written_by write)
     ∙ ap (λ us. slot_with fields us (length (objects_at graph page slot)))
     (map_id (written_by write) (unfreed_at graph freed page slot) (λ o m.
-        let k = place_of page slot graph o (in_filter (is_unfreed freed) (objects_at graph page slot) o m).0 in
-        written_by_other write o (other_name o.name (written_name write) (λ e.
-            off (sym (ap (λ (n : NameParts). n.page) e) ∙ k.0, sym (ap (λ (n : NameParts). n.slot) e) ∙ k.1)))))
+    let k = place_of page slot graph o (in_filter (is_unfreed freed) (objects_at graph page slot) o m).0 in
+    written_by_other write o (other_name o.name (written_name write) (λ e.
+    off (sym (ap (λ (n : NameParts). n.page) e) ∙ k.0, sym (ap (λ (n : NameParts). n.slot) e) ∙ k.1)))))
 
 -- a write shows at the place of its object, which alone is unfreed there
 pub write_here : (fields : ℕ) (write : Write) (graph : List Object) (freed : List NameParts) (o : Object) (page slot : ℕ)

@@ -1,5 +1,5 @@
 -- What a put or a set does.
-use Rattle.std.proofs.Common.{◌≡◌, ◌≢◌, ℕ, ◌<◌, Bool, true, false, List, [], ◌∷◌, length, Option, Some, refl, sym, subst, ap, ◌∙◌, arith}
+use Rattle.std.proofs.Common.{◌≡◌, ℕ, ◌<◌, Bool, true, false, List, [], ◌∷◌, length, Option, Some, refl, sym, subst, ap, ◌∙◌, arith}
 use Rattle.object_graph.specs.declared.calls.Call.TheVariants.{Put, Set}
 use Rattle.object_graph.specs.declared.calls.Refusal.{Refusal}
 use Rattle.object_graph.specs.declared.calls.Refusal.TheVariants.{Busy, TooWide}
@@ -13,10 +13,9 @@ use Rattle.store_model.specs.Steps.{with_page, with_transaction, writes}
 use Rattle.page_image.specs.Slots.{fresh_slot, with_number, with_ref}
 use Rattle.page_image.specs.Pages.{PageParts, slot_at, with_slot}
 use Rattle.page_buffer.specs.Frames.{frame_at, with_frame, written}
-use Rattle.page_buffer.specs.declared.frame.Frame.{Frame}
 use Rattle.page_locks.specs.Holding.{is_in_way, IsNobody, IsLeast, AddsExclusive}
 use Rattle.transactions.specs.Tables.{OpenParts, is_wide, knows_target, HaveSameNames, ChangesEntry, NotesPage}
-use Rattle.transactions.specs.Standing.{TransactionsParts, image_in, wrote, IsEntry, AreFramesOf, Stands}
+use Rattle.transactions.specs.Standing.{TransactionsParts, image_in, IsEntry, AreFramesOf, Stands}
 use Rattle.transactions.proofs.Viewed.{written_name}
 use Rattle.transactions.proofs.Seen.{there_fields}
 use Rattle.transactions.proofs.Shown.{length-shown}
@@ -153,8 +152,10 @@ stands_here s new w txn e write o known run = record {
   where
     page : ℕ
     page = (written_name write).page
+
     slot : ℕ
     slot = (written_name write).slot
+
     change : Transaction → Transaction
     change = writes write (written_name write).page
 

@@ -1,8 +1,7 @@
 -- Pages written, ascending.
-use Rattle.std.proofs.Common.{◌≡◌, ℕ, zero, suc, ◌+◌, ◌-◌, ◌<◌, ◌≤◌, ◌==◌, ◌≢◌, if◌then◌else◌, Bool, true, false, ◌||◌, List, ◌∷◌, length, Ok, Err, Result, Ordering, MatchResult, refl, sym, ◌∙◌, ap, subst, arith, ◌⊎◌, inl, inr, get_or, nat_cmp}
-use Rattle.std.specs.List.{insert, list_any}
+use Rattle.std.proofs.Common.{◌≡◌, ℕ, ◌+◌, ◌-◌, ◌<◌, ◌≤◌, ◌==◌, ◌≢◌, if◌then◌else◌, Bool, true, false, List, ◌∷◌, length, Ok, Err, Result, MatchResult, sym, ◌∙◌, ap, arith, ◌⊎◌, inl, inr, get_or, nat_cmp}
+use Rattle.std.specs.List.{insert}
 use Rattle.std.specs.List.Sorted.{IsBinarySearchResult}
-
 use Rattle.std.proofs.lemmas.Bool.{cases_eq, cases_lt, eq-eqb}
 use Rattle.std.proofs.lemmas.List.Edits.{get_or-insert_at, get_or-insert_below, get_or-insert_above, length-insert}
 use Rattle.std.proofs.lemmas.List.Sorted.{IsPermutation-insert, list_any-IsPermutation, searched}

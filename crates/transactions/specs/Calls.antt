@@ -1,5 +1,5 @@
 -- What a call's answer says.
-use Rattle.std.specs.Prelude.{◌≡◌, ℕ, Option, Result, Ok, Err, IsTrue}
+use Rattle.std.specs.Prelude.{ℕ, Option, Result, Ok, Err, IsTrue}
 use Rattle.object_graph.specs.Graphs.{has_name}
 use Rattle.object_graph.specs.NameParts.{NameParts}
 use Rattle.object_graph.specs.declared.calls.Call.{Call}

@@ -1,10 +1,11 @@
 //! The end of a transaction.
-ghost use Rattle.std.specs.Prelude.{◌≡◌, ℕ, ◌<◌, true, is_some, OnErr, length, if◌then◌else◌};
+ghost use Rattle.std.specs.Prelude.{◌≡◌, ℕ, ◌<◌, true, not, nat_eq, filter, is_some, OnErr, length, if◌then◌else◌};
 ghost use Rattle.object_graph.specs.declared.calls.Call.TheVariants.{Abort};
 ghost use Rattle.store_model.specs.Worlds.{World};
 ghost use Rattle.store_model.specs.Causes.{has_page};
 ghost use Rattle.store_model.specs.Steps.{committed};
 ghost use Rattle.page_buffer.specs.Frames.{frame_at, settled, reverted};
+ghost use Rattle.page_locks.specs.Holding.{Releases};
 ghost use Rattle.transactions.specs.Tables.{entry_of};
 ghost use Rattle.transactions.specs.Standing.{IsReady, IsReadyForSome, Stands};
 ghost use Rattle.transactions.specs.Calls.{StepsWell, done_reply};
@@ -47,8 +48,7 @@ impl Transactions {
             return Err(Refusal::NotOpen);
         };
         revert_all(&mut self.buffer, entry.written());
-        self.locks.release_all(txn);
-        self.table.remove(txn);
+        self.close(txn);
         Ok(())
     }
 
@@ -59,9 +59,19 @@ impl Transactions {
         ensures committed { (w : World) → IsReady self.old w → Stands self.new (committed w txn) }
     {
         let Some(entry) = self.table.find(txn) else {
-            return;
+            unreachable!();
         };
         settle_all(&mut self.buffer, entry.written());
+        self.close(txn);
+    }
+
+    /// Releases the locks of a transaction, and takes it out of the table.
+    fn close(&mut self, txn: u32)
+        ensures table { self.new.table ≡ filter (λ e. not (nat_eq txn e.0)) self.old.table }
+        ensures locks { Releases self.old.locks.held self.new.locks.held txn }
+        ensures pages { self.new.locks.pages ≡ self.old.locks.pages }
+        ensures frames { self.new.frames ≡ self.old.frames }
+    {
         self.locks.release_all(txn);
         self.table.remove(txn);
     }

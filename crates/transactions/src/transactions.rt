@@ -131,7 +131,7 @@ impl Transactions {
         requires page { page < length self.old.frames }
         requires used { (slot : ℕ) → IsTrue (has_slot slots slot) → (slot_at (frame_at self.old.frames page).before slot).in_use ≡ true }
         requires out { (w : World) × IsReady self.old w × AreOutOfReach w page slots }
-        ensures swept { (w : World) → IsReady self.old w → AreOutOfReach w page slots → Stands self.new (swept w page slots) }
+        ensures swept { (w : World) → IsReady self.old w → Stands self.new (swept w page slots) }
         ensures frames { self.new ≡ record self.old { frames = with_frame self.old.frames page (freed_frame slots (frame_at self.old.frames page)) } }
         ensures step { steps.new ≡ steps.old + 1 }
     {

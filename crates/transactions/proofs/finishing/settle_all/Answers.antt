@@ -1,10 +1,3 @@
-use Rattle.transactions.proofs.Writes.{write_stands}
-use Rattle.transactions.proofs.Refusals.{may_read}
-use Rattle.transactions.proofs.FramesSeen.{frames_kept}
-use Rattle.transactions.proofs.Made.{new_on_page}
-use Rattle.transactions.proofs.Images.{ref_on_page}
-use Rattle.transactions.proofs.Seen.{IsThere}
-use Rattle.transactions.proofs.Shown.{set-shown}
 use Rattle.std.proofs.Common.{ℕ, ◌++◌, ◌∷◌, [], take, get_or, subst, sym, refl, List, arith}
 use Rattle.page_buffer.specs.Frames.{settled}
 use Rattle.page_buffer.specs.declared.frame.Frame.{Frame}

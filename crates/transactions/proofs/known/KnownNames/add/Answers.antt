@@ -1,10 +1,9 @@
-use Rattle.std.proofs.Common.{◌≡◌, ℕ, ◌≤◌, ◌+◌, ◌++◌, ◌∷◌, [], List, map, false, ◌∙◌, sym, nat_eq, ap, subst, arith, length, length-append}
+use Rattle.std.proofs.Common.{◌≡◌, ℕ, ◌+◌, ◌++◌, ◌∷◌, [], map, false, ◌∙◌, sym, nat_eq, ap, subst, arith, length, length-append}
 use Rattle.std.specs.List.{AllByRecursion}
-use Rattle.object_graph.specs.NameParts.{NameParts}
 use Rattle.object_graph.specs.Names.{number_of}
 use Rattle.object_graph.specs.Graphs.{has_name}
 use Rattle.page_image.specs.Fields.{name_of}
-use Rattle.indexmap.specs.IndexSet.{insert_key, spare}
+use Rattle.indexmap.specs.IndexSet.{insert_key}
 use Rattle.transactions.specs.KnownNumbers.{IsOfName}
 use Rattle.transactions.proofs.KnownNumbers.{names_more, kept_more, inserted}
 use Rattle.transactions.proofs.known.KnownNames.add.Goals as goal

@@ -1,6 +1,4 @@
-use Rattle.std.proofs.Common.{◌≡◌, ◌≤◌, ℕ, List, false, not, ap, sym, subst, ◌∙◌, arith}
-use Rattle.std.specs.Vec.{vec_capacity}
-use Rattle.std.proofs.lemmas.Bool.{not-true}
+use Rattle.std.proofs.Common.{◌≡◌, ℕ, List, false, ap, sym, subst, ◌∙◌, arith}
 use Rattle.store_model.specs.Causes.{has_page}
 use Rattle.transactions.specs.Tables.{IsAscending, IsPlaceFor, HaveSamePages}
 use Rattle.std.specs.List.{insert}

@@ -1,7 +1,6 @@
-use Rattle.std.proofs.Common.{◌≡◌, ◌++◌, ◌∷◌, [], List, None, nat_eq, sym, ◌∙◌, ap}
-use Rattle.std.specs.Map.{lookup}
+use Rattle.std.proofs.Common.{◌≡◌, ◌++◌, ◌∷◌, [], None, nat_eq, ◌∙◌}
 use Rattle.indexmap.proofs.CallerLemmas.{insert_entry-new}
-use Rattle.transactions.specs.Tables.{Entries, fresh_entry, entry_of}
+use Rattle.transactions.specs.Tables.{entry_of}
 use Rattle.transactions.proofs.table.Table.add.Goals as goal
 
 pub returns-clause-added : goal.returns-clause-added

@@ -1,6 +1,6 @@
-use Rattle.std.proofs.Common.{rules, ◌≡◌, ℕ, List, not, filter, nat_eq, sym, ◌∙◌, ap}
+use Rattle.std.proofs.Common.{rules, ℕ, not, filter, nat_eq, ◌∙◌, ap}
 use Rattle.indexmap.proofs.CallerLemmas.{filter-RetainsPairs}
-use Rattle.transactions.specs.Tables.{Entries, OpenParts}
+use Rattle.transactions.specs.Tables.{OpenParts}
 use Rattle.transactions.proofs.table.Table.remove.Goals as goal
 
 pub returns : goal.returns

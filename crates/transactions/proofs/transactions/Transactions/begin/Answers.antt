@@ -1,11 +1,8 @@
-use Rattle.std.proofs.Common.{◌≡◌, ℕ, ◌<◌, ◌≤◌, ◌++◌, ◌∷◌, [], List, None, false, true, nat_le, length, refl, sym, subst, ap, ◌∙◌, arith}
+use Rattle.std.proofs.Common.{◌≡◌, None, false, nat_le, length, refl, sym, subst, ◌∙◌, arith}
 use Rattle.std.proofs.lemmas.Bool.{lt-leb}
-use Rattle.object_graph.specs.declared.calls.Call.TheVariants.{Begin}
-use Rattle.store_model.specs.Worlds.{World, find_transaction}
-use Rattle.page_locks.specs.Holding.{is_admitted}
-use Rattle.transactions.specs.Tables.{Entries, entry_of, fresh_entry}
-use Rattle.transactions.specs.Standing.{TransactionsParts, IsReady, Stands}
-use Rattle.transactions.proofs.Begins.{begun, stands_begun, count_open, count_admitted, not_admitted, already_open, too_many, none_met, may_lack, no_entry, opened_there}
+use Rattle.transactions.specs.Tables.{Entries, entry_of}
+use Rattle.transactions.specs.Standing.{IsReady, Stands}
+use Rattle.transactions.proofs.Begins.{begun, stands_begun, not_admitted, none_met, no_entry}
 use Rattle.transactions.proofs.Opened.{not_opened}
 use Rattle.transactions.specs.contracts.transactions.Transactions.{the_view}
 use Rattle.transactions.proofs.transactions.Transactions.begin.Goals as goal

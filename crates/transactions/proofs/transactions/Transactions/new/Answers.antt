@@ -1,8 +1,7 @@
-use Rattle.std.proofs.Common.{◌≡◌, ℕ, [], map, length, sym, subst, ◌∙◌}
+use Rattle.std.proofs.Common.{◌≡◌, length, sym, subst, ◌∙◌}
 use Rattle.std.specs.List.{AllByRecursion}
 use Rattle.store_model.specs.FromImages.{world_of}
 use Rattle.page_image.specs.Pages.{IsPage}
-use Rattle.page_buffer.specs.Frames.{clean_frame}
 use Rattle.transactions.specs.Standing.{TransactionsParts, images_of, IsReady}
 use Rattle.transactions.proofs.FromPages.{from_pages}
 use Rattle.transactions.proofs.transactions.Transactions.new.Goals as goal

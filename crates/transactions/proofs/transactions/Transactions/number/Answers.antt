@@ -1,4 +1,4 @@
-use Rattle.std.proofs.Common.{true, sym, subst, ap, ◌∙◌, refl}
+use Rattle.std.proofs.Common.{sym, subst, ap, refl}
 use Rattle.object_graph.specs.declared.calls.Call.TheVariants.{Number}
 use Rattle.object_graph.specs.declared.calls.Reply.TheVariants.{Num}
 use Rattle.object_graph.specs.declared.calls.Refusal.TheVariants.{Busy}

@@ -1,6 +1,6 @@
-use Rattle.std.proofs.Common.{◌≡◌, ◌<◌, true, sym, arith, ◌∙◌, refl}
+use Rattle.std.proofs.Common.{true, sym, arith, ◌∙◌, refl}
 use Rattle.object_graph.specs.declared.calls.Call.TheVariants.{Set}
-use Rattle.object_graph.specs.declared.calls.Refusal.TheVariants.{BadField, Busy, TooWide}
+use Rattle.object_graph.specs.declared.calls.Refusal.TheVariants.{Busy, TooWide}
 use Rattle.store_model.specs.Worlds.{link}
 use Rattle.transactions.proofs.Opened.{opened, open_admitted}
 use Rattle.transactions.proofs.Refusals.{refused}
