@@ -4,6 +4,7 @@ pub mod Ends
 pub mod Entries
 pub mod FramesSeen
 pub mod FreeSlots
+pub mod FreshPages
 pub mod FromPages
 pub mod Images
 pub mod KnownNumbers
