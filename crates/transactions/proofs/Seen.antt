@@ -1,18 +1,16 @@
 -- What a page shows of a known name, and of a write to it.
-use Rattle.std.proofs.Common.{◌≡◌, ℕ, zero, suc, ◌<◌, Bool, true, false, not, ◌==◌, cond, List, [], ◌∷◌, ◌++◌, map, length, Some, None, refl, sym, subst, ap, ◌∙◌, ◌⊎◌, inl, inr, arith}
+use Rattle.std.proofs.Common.{◌≡◌, ℕ, ◌<◌, Bool, true, false, not, ◌==◌, cond, List, [], ◌∷◌, ◌++◌, map, length, Some, None, refl, sym, subst, ap, ◌∙◌, ◌⊎◌, inl, inr, arith}
 use Rattle.std.specs.List.{filter, find, AllByRecursion}
 use Rattle.std.specs.Bool.{IsTrue}
 use Rattle.std.proofs.lemmas.Bool.{and_parts, and_from, cases_Bool, eqb-true, eq-eqb}
 use Rattle.std.proofs.lemmas.List.Elements.{filter-append}
-use Rattle.std.proofs.lemmas.List.{map-append}
 use Rattle.object_graph.specs.NameParts.{NameParts}
 use Rattle.object_graph.specs.Names.{name_eq}
 use Rattle.object_graph.specs.declared.names.Object.{Object}
 use Rattle.object_graph.specs.Graphs.{is_at, objects_at, has_name, has_object, object_named}
-use Rattle.object_graph.specs.Slots.{below}
 use Rattle.store_model.specs.Worlds.{World, Transaction, view, with_writes, new_object, starts, fields_of, is_unfreed, IsHeldBy, IsOutOfReach}
 use Rattle.store_model.specs.Lawful.{HaveFields, IsOwn, IsLawfulTransaction, CountsUp, OnlyLastUnfreed, IsLawful, IsCovered, IsCoveredPath}
-use Rattle.object_graph.proofs.Members.{In, in_filter, filter_in, each_in, in_map, map_in, in_append, append_right, in_any}
+use Rattle.object_graph.proofs.Members.{In, in_filter, filter_in, each_in, map_in, append_right, in_any}
 use Rattle.store_model.proofs.Reach.{name-with_writes}
 use Rattle.object_graph.proofs.Paths.{name_eq_same, name_eq_refl, has_name_in, has_object_in}
 use Rattle.store_model.proofs.Locks.{name_in_view}
@@ -20,7 +18,7 @@ use Rattle.store_model.proofs.Cuts.{next_name_is_new}
 use Rattle.store_model.proofs.Shown.{AreApart, apart_below, last_at}
 use Rattle.store_model.proofs.Fields.{view_has_fields}
 use Rattle.store_model.specs.Images.{unfreed_at}
-use Rattle.transactions.proofs.Viewed.{filter-map_kept, objects_at-view, place_of}
+use Rattle.transactions.proofs.Viewed.{filter-map_kept, objects_at-view}
 
 -- ---- at most one unfreed object at a place
 
