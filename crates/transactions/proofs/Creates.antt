@@ -1,0 +1,173 @@
+-- What a call for a new object does.
+use Rattle.std.proofs.Common.{◌≡◌, ℕ, ◌+◌, ◌<◌, Bool, true, false, List, [], ◌∷◌, length, Option, Some, None, refl, sym, subst, ap, ◌∙◌, arith, nat_le}
+use Rattle.std.specs.Option.{option_map, is_none}
+use Rattle.object_graph.specs.NameParts.{NameParts}
+use Rattle.object_graph.specs.SlotParts.{SlotParts}
+use Rattle.object_graph.specs.declared.calls.Call.TheVariants.{New}
+use Rattle.object_graph.specs.declared.calls.Reply.TheVariants.{Made}
+use Rattle.object_graph.specs.declared.calls.Refusal.{Refusal}
+use Rattle.object_graph.specs.declared.calls.Refusal.TheVariants.{Busy, TooWide, KnowsTooMany, PageFull}
+use Rattle.object_graph.specs.Graphs.{objects_at}
+use Rattle.object_graph.proofs.Paths.{name_of}
+use Rattle.store_model.specs.Worlds.{World, Transaction, nothing, view, slots_of, fields_of}
+use Rattle.store_model.specs.Images.{shown_slot}
+use Rattle.store_model.specs.Causes.{first_met, first_refusal, when, no_page, busy_to_write, too_wide, knows_too_many, page_full, free_slot, name_at, new_name}
+use Rattle.store_model.specs.Replies.{AnswersNew}
+use Rattle.store_model.specs.Steps.{with_page, with_target, with_transaction, with_new, makes}
+use Rattle.page_image.specs.Slots.{fresh_slot, has_room, taken}
+use Rattle.page_image.specs.Pages.{PageParts, slot_at, with_slot, IsFull, IsNextName}
+use Rattle.page_buffer.specs.Frames.{frame_at, with_frame, written}
+use Rattle.page_locks.specs.Holding.{is_in_way, IsNobody, IsLeast, AddsExclusive}
+use Rattle.transactions.specs.Tables.{OpenParts, is_wide, HaveSamePages, HaveSameNames, ChangesEntry, NotesPage, NotesTarget}
+use Rattle.transactions.specs.Standing.{TransactionsParts, image_in, IsEntry, AreFramesOf, Stands}
+use Rattle.transactions.proofs.Shown.{length-shown, get-shown}
+use Rattle.transactions.proofs.FreeSlots.{first_free, none_free}
+use Rattle.transactions.proofs.Made.{IsFreePlace, free_place, new_on_page, new_on_another_page, free_generation}
+use Rattle.transactions.proofs.Entries.{table_changes, ChangesTwice, same_pages, same_names, same_with_page, same_with_target}
+use Rattle.transactions.proofs.LocksHeld.{locks_exclude}
+use Rattle.transactions.proofs.FramesSeen.{sees, frames_change}
+use Rattle.transactions.proofs.Opened.{IsOpened, open_lawful}
+use Rattle.transactions.proofs.Refusals.{is_open, is_page, may_write, is_busy_to_write, wide_by, full_by, nobody_wrote}
+
+-- ---- the causes
+
+abbrev from_wide : World → ℕ → ℕ → List (Option Refusal)
+from_wide w txn page = too_wide w txn page ∷ knows_too_many w txn ∷ page_full w txn page ∷ []
+
+to_page : (s : TransactionsParts) (w : World) (txn : ℕ) (e : OpenParts) (page : ℕ) → IsOpened s w txn e → page < w.pages
+    → first_refusal w (New txn page) nothing ≡ first_met (busy_to_write w txn page ∷ from_wide w txn page)
+to_page s w txn e page o low =
+    is_open s w txn e (no_page w page ∷ busy_to_write w txn page ∷ from_wide w txn page) o ∙ is_page w page (busy_to_write w txn page ∷ from_wide w txn page) low
+
+pub create_busy : (s : TransactionsParts) (w : World) (txn : ℕ) (e : OpenParts) (page holder : ℕ) → IsOpened s w txn e → page < w.pages
+    → IsLeast (is_in_way true s.locks.held txn page) holder → first_refusal w (New txn page) nothing ≡ Some (Busy holder)
+create_busy s w txn e page holder o low least = to_page s w txn e page o low ∙ is_busy_to_write s w txn page holder (from_wide w txn page) o.ready least
+
+to_wide : (s : TransactionsParts) (w : World) (txn : ℕ) (e : OpenParts) (page : ℕ) → IsOpened s w txn e → page < w.pages → IsNobody (is_in_way true s.locks.held txn page)
+    → first_refusal w (New txn page) nothing ≡ first_met (from_wide w txn page)
+to_wide s w txn e page o low nobody = to_page s w txn e page o low ∙ may_write s w txn page (from_wide w txn page) o.ready nobody
+
+pub create_wide : (s : TransactionsParts) (w : World) (txn : ℕ) (e : OpenParts) (page : ℕ) → IsOpened s w txn e → page < w.pages → IsNobody (is_in_way true s.locks.held txn page)
+    → is_wide e.written page ≡ true → first_refusal w (New txn page) nothing ≡ Some TooWide
+create_wide s w txn e page o low nobody wide =
+    to_wide s w txn e page o low nobody ∙ wide_by s w txn e page true (knows_too_many w txn ∷ page_full w txn page ∷ []) o wide
+
+to_known : (s : TransactionsParts) (w : World) (txn : ℕ) (e : OpenParts) (page : ℕ) (b : Bool) → IsOpened s w txn e → page < w.pages → IsNobody (is_in_way true s.locks.held txn page)
+    → is_wide e.written page ≡ false → nat_le 4096 (length e.known) ≡ b → first_refusal w (New txn page) nothing ≡ first_met (when b KnowsTooMany ∷ page_full w txn page ∷ [])
+to_known s w txn e page b o low nobody narrow full =
+    to_wide s w txn e page o low nobody
+    ∙ (wide_by s w txn e page false (knows_too_many w txn ∷ page_full w txn page ∷ []) o narrow ∙ full_by s w txn e b (page_full w txn page ∷ []) o full)
+
+pub create_knowing : (s : TransactionsParts) (w : World) (txn : ℕ) (e : OpenParts) (page : ℕ) → IsOpened s w txn e → page < w.pages → IsNobody (is_in_way true s.locks.held txn page)
+    → is_wide e.written page ≡ false → nat_le 4096 (length e.known) ≡ true → first_refusal w (New txn page) nothing ≡ Some KnowsTooMany
+create_knowing s w txn e page o low nobody narrow full = to_known s w txn e page true o low nobody narrow full
+
+-- ---- the page as it is seen
+
+seen_image : (s : TransactionsParts) (w : World) (txn : ℕ) (e : OpenParts) (page : ℕ) (o : IsOpened s w txn e) → page < w.pages → IsNobody (is_in_way true s.locks.held txn page)
+    → (frame_at s.frames page).current ≡ image_in w (view w o.of) page
+seen_image s w txn e page o low nobody =
+    sees w page (frame_at s.frames page) txn o.of (o.ready.stands.frames.each page low) o.found (open_lawful s w txn e o) (λ u ne. nobody_wrote s w true txn page u o.ready nobody ne)
+
+slot_seen : (w : World) (t : Transaction) (page slot : ℕ) (image : PageParts) → image ≡ image_in w (view w t) page → slot < slots_of w page
+    → slot_at image slot ≡ shown_slot (fields_of w page) (view w t) w.freed page slot
+slot_seen w t page slot image is lt =
+    ap (λ (i : PageParts). slot_at i slot) is ∙ get-shown (slots_of w page) (fields_of w page) (view w t) w.freed page slot fresh_slot lt
+
+slots_seen : (w : World) (t : Transaction) (page : ℕ) (image : PageParts) → image ≡ image_in w (view w t) page → length image.slots ≡ slots_of w page
+slots_seen w t page image is = ap (λ (i : PageParts). length i.slots) is ∙ length-shown (slots_of w page) (fields_of w page) (view w t) w.freed page
+
+pub create_full : (s : TransactionsParts) (w : World) (txn : ℕ) (e : OpenParts) (page : ℕ) → IsOpened s w txn e → page < w.pages → IsNobody (is_in_way true s.locks.held txn page)
+    → is_wide e.written page ≡ false → nat_le 4096 (length e.known) ≡ false → IsFull (frame_at s.frames page).current
+    → first_refusal w (New txn page) nothing ≡ Some (PageFull page)
+create_full s w txn e page o low nobody narrow spare full =
+    let image = seen_image s w txn e page o low nobody in
+    let none = none_free w txn o.of page o.ready.lawful o.found (λ slot lt.
+    let count = slots_seen w o.of page (frame_at s.frames page).current image in
+    let within : slot < length (frame_at s.frames page).current.slots = subst (λ n. slot < n) (sym count) lt in
+    sym (ap has_room (slot_seen w o.of page slot (frame_at s.frames page).current image lt)) ∙ full slot within) in
+    to_known s w txn e page false o low nobody narrow spare ∙ ap (λ x. first_met (when (is_none x) (PageFull page) ∷ [])) none
+
+-- ---- the new object
+
+-- the code's steps
+pub record HasMade (s new : TransactionsParts) (txn : ℕ) (e : OpenParts) (page : ℕ) (name : NameParts) : Type 0 where
+  pub nobody : IsNobody (is_in_way true s.locks.held txn page)
+  pub narrow : is_wide e.written page ≡ false
+  pub spare : nat_le 4096 (length e.known) ≡ false
+  pub locked : AddsExclusive s.locks.held new.locks.held txn page
+  pub pages : new.locks.pages ≡ s.locks.pages
+  pub noted : ChangesEntry (ChangesTwice (NotesPage page) (NotesTarget (Some name))) txn s.table new.table
+  pub next : IsNextName (frame_at s.frames page).current name
+  pub frames : new.frames ≡ with_frame s.frames page (written (frame_at s.frames page) (with_slot (frame_at s.frames page).current name.slot taken))
+
+-- the name is the model's, and all stands for the world with the object
+pub record IsMade (w : World) (new : TransactionsParts) (txn page : ℕ) (name : NameParts) : Type 0 where
+  pub allowed : first_refusal w (New txn page) nothing ≡ None
+  pub named : new_name w txn page ≡ Some name
+  pub stands : Stands new (with_transaction w txn (makes name))
+
+entry_makes : (e f : OpenParts) (t : Transaction) (page : ℕ) (name : NameParts) → name.page ≡ page → IsEntry e t → ChangesTwice (NotesPage page) (NotesTarget (Some name)) e f → IsEntry f (makes name t)
+entry_makes e f t page name is h notes =
+    let g : OpenParts = notes.0 in
+    record {
+      known = same_names f.known (with_target (Some name) g.known) (with_target (Some name) t.known) notes.2.known
+          (same_with_target (Some name) g.known t.known (subst (λ k. HaveSameNames k t.known) (sym notes.1.known) h.known));
+      written = subst (λ p. HaveSamePages f.written (with_page p t.pages_written)) (sym is)
+          (subst (λ k. HaveSamePages k (with_page page t.pages_written)) (sym notes.2.written)
+          (same_pages g.written (with_page page e.written) (with_page page t.pages_written) notes.1.written (same_with_page page e.written t.pages_written h.written)));
+    }
+
+made_at : (s new : TransactionsParts) (w : World) (txn : ℕ) (e : OpenParts) (page slot : ℕ) (o : IsOpened s w txn e) → page < w.pages → slot < slots_of w page
+    → free_slot w txn page ≡ Some slot → IsFreePlace w o.of page slot → HasMade s new txn e page (name_at w.graph page slot) → IsMade w new txn page (name_at w.graph page slot)
+made_at s new w txn e page slot o low within found free run = record {
+  allowed = to_known s w txn e page false o low run.nobody run.narrow run.spare ∙ ap (λ x. first_met (when (is_none x) (PageFull page) ∷ [])) found;
+  named = ap (option_map (name_at w.graph page)) found;
+  stands = record {
+    limit = o.ready.stands.limit;
+    fields = o.ready.stands.fields;
+    table = table_changes w s.table new.table txn e o.of (ChangesTwice (NotesPage page) (NotesTarget (Some name))) (makes name) o.ready.stands.table o.is o.found (λ t. refl) run.noted
+        (λ f h. entry_makes e f o.of page name refl o.entry h);
+    locks = locks_exclude w s.locks new.locks txn page (makes name) o.of o.ready.stands.locks o.found (λ t. refl) refl refl run.pages run.locked;
+    frames = subst (AreFramesOf (with_transaction w txn (makes name))) (sym run.frames)
+        (frames_change w s.frames txn page (written (frame_at s.frames page) (with_slot (frame_at s.frames page).current slot taken)) (makes name) o.of
+        o.ready.stands.frames low o.found (λ t. refl) refl (λ u ne. nobody_wrote s w true txn page u o.ready run.nobody ne) refl refl
+        (ap (λ i. with_slot i slot taken) (seen_image s w txn e page o low run.nobody)
+        ∙ ap (λ slots. record { number = page; slots = slots }) (new_on_page w txn o.of page slot fresh_slot o.ready.lawful o.found free within))
+        (λ p ne. ap (λ slots. record { number = p; slots = slots }) (new_on_another_page w o.of page slot p ne)));
+  };
+}
+  where
+    name : NameParts
+    name = name_at w.graph page slot
+
+-- the name that the page gives is the model's
+next_is : (w : World) (t : Transaction) (page : ℕ) (image : PageParts) (name : NameParts) → image ≡ image_in w (view w t) page → IsNextName image name → name.slot < slots_of w page
+    → (shown_slot (fields_of w page) (view w t) w.freed page name.slot).generation ≡ length (objects_at w.graph page name.slot)
+    → name ≡ name_at w.graph page name.slot
+next_is w t page image name is next within generation =
+    ap (λ p. name_of p name.slot name.generation) (next.page ∙ ap (λ (i : PageParts). i.number) is)
+    ∙ ap (λ g. name_of page name.slot g)
+    (next.generation ∙ (ap (λ (x : SlotParts). x.generation + 1) (slot_seen w t page name.slot image is within) ∙ (let g = generation in omega arith)))
+
+pub creates : (s new : TransactionsParts) (w : World) (txn : ℕ) (e : OpenParts) (page : ℕ) (name : NameParts) → IsOpened s w txn e → page < w.pages → HasMade s new txn e page name → IsMade w new txn page name
+creates s new w txn e page name o low run =
+    let now : PageParts = (frame_at s.frames page).current in
+    let image : now ≡ image_in w (view w o.of) page = seen_image s w txn e page o low run.nobody in
+    let count : length now.slots ≡ slots_of w page = slots_seen w o.of page now image in
+    let within : name.slot < slots_of w page = subst (λ n. name.slot < n) count run.next.slot.within in
+    let room : has_room (shown_slot (fields_of w page) (view w o.of) w.freed page name.slot) ≡ true = sym (ap has_room (slot_seen w o.of page name.slot now image within)) ∙ run.next.slot.room in
+    let free = free_place w txn o.of (fields_of w page) page name.slot o.ready.lawful o.found room in
+    let found : free_slot w txn page ≡ Some name.slot =
+    first_free w txn o.of page name.slot o.ready.lawful o.found within room
+    (λ slot lt. let less : slot < slots_of w page = let k = within in omega arith in sym (ap has_room (slot_seen w o.of page slot now image less)) ∙ run.next.slot.least slot lt) in
+    let same : name ≡ name_at w.graph page name.slot = next_is w o.of page now name image run.next within (free_generation w o.of page name.slot free) in
+    subst (λ n. IsMade w new txn page n) (sym same)
+    (made_at s new w txn e page name.slot o low within found free (subst (λ n. HasMade s new txn e page n) same run))
+
+-- the answer, as the model names it
+pub answers_made : (w : World) (txn page : ℕ) (name : NameParts) → new_name w txn page ≡ Some name → AnswersNew (new_name w txn page) (Made name)
+answers_made w txn page name is = subst (λ x. AnswersNew x (Made name)) (sym is) refl
+
+pub stands_made : (w : World) (new : TransactionsParts) (txn page : ℕ) (name : NameParts) → IsMade w new txn page name → Stands new (with_new w txn (new_name w txn page))
+stands_made w new txn page name made = subst (λ x. Stands new (with_new w txn x)) (sym made.named) made.stands

@@ -1,0 +1,54 @@
+-- The frames of some pages change in the same way, one after another.
+use Rattle.std.proofs.Common.{◌≡◌, ℕ, ◌<◌, Bool, true, false, ◌||◌, ◌==◌, cond, List, [], ◌∷◌, ◌++◌, length, refl, sym, ap, ◌∙◌, inl, inr, arith, get_or, get_or-set_same, get_or-set_other}
+use Rattle.std.proofs.lemmas.Bool.{cases_eq, eq-eqb, ne_eqb, cond-true}
+use Rattle.std.proofs.lemmas.List.{length-set}
+use Rattle.std.proofs.lemmas.List.Folds.{list_any-append, list_any_at}
+use Rattle.store_model.specs.Causes.{has_page}
+use Rattle.page_buffer.specs.Frames.{frame_at, with_frame, blank_frame}
+use Rattle.page_buffer.specs.declared.frame.Frame.{Frame}
+
+-- the frames of these pages were changed, and no others
+pub record AreChanged (change : Frame → Frame) (old new : List Frame) (pages : List ℕ) : Type 0 where
+  pub count : length new ≡ length old
+  pub frames : (page : ℕ) → frame_at new page ≡ cond (has_page pages page) (change (frame_at old page)) (frame_at old page)
+
+or_false : (a : Bool) → (a || false) ≡ a
+or_false true = refl
+or_false false = refl
+
+or_true : (a : Bool) → (a || true) ≡ true
+or_true true = refl
+or_true false = refl
+
+pub page_at : (pages : List ℕ) (i : ℕ) → i < length pages → has_page pages (get_or pages i 0) ≡ true
+page_at pages i lt = list_any_at (λ p. p == get_or pages i 0) pages i 0 lt (eq-eqb (get_or pages i 0) (get_or pages i 0) refl)
+
+-- one more page; to change a frame twice is to change it once
+pub changes_more : (change : Frame → Frame) (old new : List Frame) (pages : List ℕ) (page : ℕ) → ((frame : Frame) → change (change frame) ≡ change frame)
+    → page < length old → AreChanged change old new pages
+    → AreChanged change old (with_frame new page (change (frame_at new page))) (pages ++ page ∷ [])
+changes_more change old new pages page again lt h = record {
+  count = length-set new page (change (frame_at new page)) ∙ h.count;
+  frames = λ p.
+      let has : has_page (pages ++ page ∷ []) p ≡ (has_page pages p || ((page == p) || false)) = list_any-append (λ q. q == p) pages (page ∷ []) in
+      elim (cases_eq p page) [
+        | inl here ↦
+            let n = h.count in
+            let inside : page < length new = omega arith in
+            let noted : has_page (pages ++ page ∷ []) p ≡ true = has ∙ (ap (λ b. has_page pages p || (b || false)) (eq-eqb page p (sym here)) ∙ or_true (has_page pages p)) in
+            ap (frame_at (with_frame new page (change (frame_at new page)))) here
+            ∙ (get_or-set_same new page (change (frame_at new page)) blank_frame inside
+            ∙ (ap change (h.frames page)
+            ∙ (once (has_page pages page) (frame_at old page)
+            ∙ (ap (λ q. change (frame_at old q)) (sym here)
+            ∙ sym (cond-true (has_page (pages ++ page ∷ []) p) (change (frame_at old p)) (frame_at old p) noted)))))
+        | inr away ↦
+            let same : has_page (pages ++ page ∷ []) p ≡ has_page pages p = has ∙ (ap (λ b. has_page pages p || (b || false)) (ne_eqb page p (λ f. away (sym f))) ∙ or_false (has_page pages p)) in
+            get_or-set_other new page p (change (frame_at new page)) blank_frame away
+            ∙ (h.frames p ∙ ap (λ b. cond b (change (frame_at old p)) (frame_at old p)) (sym same))
+      ];
+}
+  where
+    once : (b : Bool) (frame : Frame) → change (cond b (change frame) frame) ≡ change frame
+    once true frame = again frame
+    once false frame = refl

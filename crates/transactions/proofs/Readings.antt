@@ -1,0 +1,167 @@
+-- What a get or a number reads, and does.
+use Rattle.std.proofs.Common.{◌≡◌, ℕ, ◌<◌, Bool, true, false, [], ◌∷◌, length, Option, Some, None, refl, sym, subst, ap, ◌∙◌, arith, get_or}
+use Rattle.std.specs.List.{slice_get}
+use Rattle.std.specs.Option.{option_map, option_and_then, unwrap_or}
+use Rattle.std.proofs.lemmas.Option.{slice_get-get_or}
+use Rattle.object_graph.specs.NameParts.{NameParts}
+use Rattle.object_graph.specs.declared.names.Object.{Object}
+use Rattle.object_graph.specs.declared.calls.Call.TheVariants.{Get, Number}
+use Rattle.object_graph.specs.declared.calls.Refusal.TheVariants.{Busy, KnowsTooMany}
+use Rattle.object_graph.specs.Graphs.{has_name, object_named}
+use Rattle.store_model.specs.Worlds.{World, Transaction, nothing, view, transaction}
+use Rattle.store_model.specs.Causes.{first_met, first_refusal, when, stranger, bad_field, busy_to_read, knows_too_many_for, field_seen, number_seen}
+use Rattle.store_model.specs.Steps.{with_target, with_transaction, reads_page}
+use Rattle.page_image.specs.Slots.{fresh_slot}
+use Rattle.page_image.specs.Pages.{object_of, object_at}
+use Rattle.page_buffer.specs.Frames.{frame_at}
+use Rattle.page_locks.specs.Holding.{is_in_way, IsNobody, IsLeast, AddsShared}
+use Rattle.transactions.specs.Tables.{OpenParts, is_full_for, HaveSamePages, ChangesEntry, NotesTarget}
+use Rattle.transactions.specs.Standing.{TransactionsParts, IsEntry, IsTable, AreFramesOf, Stands}
+use Rattle.transactions.proofs.Numbers.{transaction_found}
+use Rattle.transactions.proofs.Seen.{object_found, known_unfreed, there_fields}
+use Rattle.transactions.proofs.Images.{slot_of_known}
+use Rattle.transactions.proofs.Entries.{table_changes, table_stays, same_names, same_with_target}
+use Rattle.transactions.proofs.LocksHeld.{locks_share}
+use Rattle.transactions.proofs.FramesSeen.{frames_kept}
+use Rattle.transactions.proofs.Opened.{IsOpened, open_member, known_there, known_placed}
+use Rattle.transactions.proofs.Refusals.{is_open, is_known, is_field, may_read, is_busy_to_read, full_for_by}
+use Rattle.transactions.proofs.Writes.{known_image}
+
+-- ---- what is read
+
+-- the object in the current image is the one that the transaction sees
+pub read_object : (s : TransactionsParts) (w : World) (txn : ℕ) (e : OpenParts) (name : NameParts) (page : ℕ) (o : IsOpened s w txn e) (known : has_name e.known name ≡ true)
+    → page ≡ name.page → IsNobody (is_in_way false s.locks.held txn page) → object_at (frame_at s.frames name.page).current name.slot ≡ Some (known_there s w txn e name o known).object
+read_object s w txn e name page o known is nobody =
+    let there = known_there s w txn e name o known in
+    ap (λ image. object_at image name.slot) (known_image s w false txn e name o known (subst (λ p. IsNobody (is_in_way false s.locks.held txn p)) is nobody))
+    ∙ (ap (object_of name.page name.slot) (slot_of_known w o.of name fresh_slot there (known_placed s w txn e name o known).1)
+    ∙ ap (λ (n : NameParts). Some (record { name = record { page = n.page; slot = n.slot; generation = there.object.name.generation }; number = there.object.number; refs = there.object.refs })) (sym there.named))
+
+pub seen_object : (s : TransactionsParts) (w : World) (txn : ℕ) (e : OpenParts) (name : NameParts) (o : IsOpened s w txn e) (known : has_name e.known name ≡ true)
+    → object_named (view w (transaction w txn)) name ≡ Some (known_there s w txn e name o known).object
+seen_object s w txn e name o known =
+    ap (λ t. object_named (view w t) name) (transaction_found w txn o.of o.found)
+    ∙ object_found w o.of name (known_there s w txn e name o known) (known_unfreed w o.of name o.ready.lawful (open_member s w txn e o) (sym (o.entry.known.each name) ∙ known))
+
+-- it is there
+pub is_read : (s : TransactionsParts) (w : World) (txn : ℕ) (e : OpenParts) (name : NameParts) (page : ℕ) → IsOpened s w txn e → has_name e.known name ≡ true
+    → page ≡ name.page → IsNobody (is_in_way false s.locks.held txn page) → object_at (frame_at s.frames name.page).current name.slot ≡ None → ⊥
+is_read s w txn e name page o known is nobody none =
+    let some = read_object s w txn e name page o known is nobody in cc
+
+same_object : (a b : Object) (x : Option Object) → x ≡ Some a → x ≡ Some b → a ≡ b
+same_object a b x p q = cc
+
+pub read_number : (s : TransactionsParts) (w : World) (txn : ℕ) (e : OpenParts) (name : NameParts) (page : ℕ) (object : Object) → IsOpened s w txn e → has_name e.known name ≡ true
+    → page ≡ name.page → IsNobody (is_in_way false s.locks.held txn page) → object_at (frame_at s.frames name.page).current name.slot ≡ Some object
+    → object.number ≡ number_seen w txn name
+read_number s w txn e name page object o known is nobody found =
+    let there = known_there s w txn e name o known in
+    ap (λ (x : Object). x.number) (same_object object there.object (object_at (frame_at s.frames name.page).current name.slot) found (read_object s w txn e name page o known is nobody))
+    ∙ ap (λ x. unwrap_or (option_map (λ (x : Object). x.number) x) 0) (sym (seen_object s w txn e name o known))
+
+pub read_field : (s : TransactionsParts) (w : World) (txn : ℕ) (e : OpenParts) (name : NameParts) (page field : ℕ) (object : Object) (d : Option NameParts) → IsOpened s w txn e → has_name e.known name ≡ true
+    → page ≡ name.page → IsNobody (is_in_way false s.locks.held txn page) → object_at (frame_at s.frames name.page).current name.slot ≡ Some object → field < 4
+    → get_or object.refs field d ≡ field_seen w txn name field
+read_field s w txn e name page field object d o known is nobody found low =
+    let there = known_there s w txn e name o known in
+    let same = same_object object there.object (object_at (frame_at s.frames name.page).current name.slot) found (read_object s w txn e name page o known is nobody) in
+    let fields : length there.object.refs ≡ 4 = there_fields w o.of name there o.ready.stands.fields in
+    let within : field < length there.object.refs = omega arith in
+    ap (λ (x : Object). get_or x.refs field d) same
+    ∙ (sym (ap (λ x. unwrap_or x None) (slice_get-get_or there.object.refs field d within))
+    ∙ ap (option_and_then (λ (x : Object). unwrap_or (slice_get x.refs field) None)) (sym (seen_object s w txn e name o known)))
+
+-- ---- the causes
+
+pub number_busy : (s : TransactionsParts) (w : World) (txn : ℕ) (e : OpenParts) (name : NameParts) (page holder : ℕ) → IsOpened s w txn e → has_name e.known name ≡ true → page ≡ name.page
+    → IsLeast (is_in_way false s.locks.held txn page) holder → first_refusal w (Number txn name) nothing ≡ Some (Busy holder)
+number_busy s w txn e name page holder o known is least =
+    is_open s w txn e (stranger w txn name ∷ busy_to_read w txn name.page ∷ []) o
+    ∙ (is_known s w txn e name (busy_to_read w txn name.page ∷ []) o known
+    ∙ is_busy_to_read s w txn name.page holder [] o.ready (subst (λ p. IsLeast (is_in_way false s.locks.held txn p) holder) is least))
+
+pub number_free : (s : TransactionsParts) (w : World) (txn : ℕ) (e : OpenParts) (name : NameParts) (page : ℕ) → IsOpened s w txn e → has_name e.known name ≡ true → page ≡ name.page
+    → IsNobody (is_in_way false s.locks.held txn page) → first_refusal w (Number txn name) nothing ≡ None
+number_free s w txn e name page o known is nobody =
+    is_open s w txn e (stranger w txn name ∷ busy_to_read w txn name.page ∷ []) o
+    ∙ (is_known s w txn e name (busy_to_read w txn name.page ∷ []) o known
+    ∙ may_read s w txn name.page [] o.ready (subst (λ p. IsNobody (is_in_way false s.locks.held txn p)) is nobody))
+
+get_known : (s : TransactionsParts) (w : World) (txn : ℕ) (e : OpenParts) (name : NameParts) (field : ℕ) → IsOpened s w txn e → has_name e.known name ≡ true → field < 4
+    → first_refusal w (Get txn name field) nothing ≡ first_met (busy_to_read w txn name.page ∷ knows_too_many_for w txn (field_seen w txn name field) ∷ [])
+get_known s w txn e name field o known low =
+    let last = busy_to_read w txn name.page ∷ knows_too_many_for w txn (field_seen w txn name field) ∷ [] in
+    is_open s w txn e (stranger w txn name ∷ bad_field w name field ∷ last) o
+    ∙ (is_known s w txn e name (bad_field w name field ∷ last) o known ∙ is_field w name field last low)
+
+pub get_busy : (s : TransactionsParts) (w : World) (txn : ℕ) (e : OpenParts) (name : NameParts) (field page holder : ℕ) → IsOpened s w txn e → has_name e.known name ≡ true → field < 4 → page ≡ name.page
+    → IsLeast (is_in_way false s.locks.held txn page) holder → first_refusal w (Get txn name field) nothing ≡ Some (Busy holder)
+get_busy s w txn e name field page holder o known low is least =
+    get_known s w txn e name field o known low
+    ∙ is_busy_to_read s w txn name.page holder (knows_too_many_for w txn (field_seen w txn name field) ∷ []) o.ready (subst (λ p. IsLeast (is_in_way false s.locks.held txn p) holder) is least)
+
+-- where the target fits, or doesn't
+pub get_full : (s : TransactionsParts) (w : World) (txn : ℕ) (e : OpenParts) (name : NameParts) (field page : ℕ) (target : Option NameParts) (b : Bool) → IsOpened s w txn e → has_name e.known name ≡ true
+    → field < 4 → page ≡ name.page → IsNobody (is_in_way false s.locks.held txn page) → target ≡ field_seen w txn name field → is_full_for e.known target ≡ b
+    → first_refusal w (Get txn name field) nothing ≡ when b KnowsTooMany
+get_full s w txn e name field page target b o known low is nobody seen full =
+    get_known s w txn e name field o known low
+    ∙ (may_read s w txn name.page (knows_too_many_for w txn (field_seen w txn name field) ∷ []) o.ready (subst (λ p. IsNobody (is_in_way false s.locks.held txn p)) is nobody)
+    ∙ (full_for_by s w txn e (field_seen w txn name field) b [] o (subst (λ x. is_full_for e.known x ≡ b) seen full) ∙ alone b))
+  where
+    alone : (b : Bool) → first_met (when b KnowsTooMany ∷ []) ≡ when b KnowsTooMany
+    alone true = refl
+    alone false = refl
+
+-- ---- the reading
+
+-- the code's steps
+pub record HasRead (s new : TransactionsParts) (txn page : ℕ) : Type 0 where
+  pub locked : AddsShared s.locks.held new.locks.held txn page
+  pub pages : new.locks.pages ≡ s.locks.pages
+  pub frames : new.frames ≡ s.frames
+
+number_here : (s new : TransactionsParts) (w : World) (txn : ℕ) (e : OpenParts) (page : ℕ) → IsOpened s w txn e → new.table ≡ s.table → HasRead s new txn page
+    → Stands new (with_transaction w txn (reads_page page))
+number_here s new w txn e page o same run = record {
+  limit = o.ready.stands.limit;
+  fields = o.ready.stands.fields;
+  table = table_stays w new.table txn o.of (reads_page page) (subst (IsTable w) (sym same) o.ready.stands.table) o.found (λ t. refl) (λ f h. record { known = h.known; written = h.written });
+  locks = locks_share w s.locks new.locks txn page (reads_page page) o.of o.ready.stands.locks o.found (λ t. refl) refl refl run.pages run.locked;
+  frames = subst (AreFramesOf (with_transaction w txn (reads_page page))) (sym run.frames) (frames_kept w s.frames txn (reads_page page) o.of o.ready.stands.frames o.found (λ t. refl) refl (λ p. refl));
+}
+
+-- all stands for the world after a number was read
+pub number_stands : (s new : TransactionsParts) (w : World) (txn : ℕ) (e : OpenParts) (name : NameParts) (page : ℕ) → IsOpened s w txn e → page ≡ name.page → new.table ≡ s.table → HasRead s new txn page
+    → Stands new (with_transaction w txn (reads_page name.page))
+number_stands s new w txn e name page o is same run = subst (λ p. Stands new (with_transaction w txn (reads_page p))) is (number_here s new w txn e page o same run)
+
+entry_gets : (e f : OpenParts) (t : Transaction) (target : Option NameParts) (page : ℕ) → IsEntry e t → NotesTarget target e f
+    → IsEntry f (reads_page page (record t { known = with_target target t.known }))
+entry_gets e f t target page h notes = record {
+  known = same_names f.known (with_target target e.known) (with_target target t.known) notes.known (same_with_target target e.known t.known h.known);
+  written = subst (λ k. HaveSamePages k t.pages_written) (sym notes.written) h.written;
+}
+
+abbrev pub got : ℕ → Option NameParts → Transaction → Transaction
+got page target u = reads_page page (record u { known = with_target target u.known })
+
+get_here : (s new : TransactionsParts) (w : World) (txn : ℕ) (e : OpenParts) (page : ℕ) (target : Option NameParts) → IsOpened s w txn e → ChangesEntry (NotesTarget target) txn s.table new.table → HasRead s new txn page
+    → Stands new (with_transaction w txn (got page target))
+get_here s new w txn e page target o notes run = record {
+  limit = o.ready.stands.limit;
+  fields = o.ready.stands.fields;
+  table = table_changes w s.table new.table txn e o.of (NotesTarget target) (got page target) o.ready.stands.table o.is o.found (λ t. refl) notes (λ f h. entry_gets e f o.of target page o.entry h);
+  locks = locks_share w s.locks new.locks txn page (got page target) o.of o.ready.stands.locks o.found (λ t. refl) refl refl run.pages run.locked;
+  frames = subst (AreFramesOf (with_transaction w txn (got page target))) (sym run.frames) (frames_kept w s.frames txn (got page target) o.of o.ready.stands.frames o.found (λ t. refl) refl (λ p. refl));
+}
+
+-- all stands for the world after a reference was got
+pub get_stands : (s new : TransactionsParts) (w : World) (txn : ℕ) (e : OpenParts) (name : NameParts) (field page : ℕ) (target : Option NameParts) → IsOpened s w txn e → page ≡ name.page
+    → target ≡ field_seen w txn name field → ChangesEntry (NotesTarget target) txn s.table new.table → HasRead s new txn page
+    → Stands new (with_transaction w txn (got name.page (field_seen w txn name field)))
+get_stands s new w txn e name field page target o is seen notes run =
+    subst (λ p. Stands new (with_transaction w txn (got p (field_seen w txn name field)))) is
+    (subst (λ x. Stands new (with_transaction w txn (got page x))) seen (get_here s new w txn e page target o notes run))

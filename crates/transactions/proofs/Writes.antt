@@ -1,0 +1,168 @@
+-- What a put or a set does.
+use Rattle.std.proofs.Common.{◌≡◌, ℕ, ◌<◌, Bool, true, false, List, [], ◌∷◌, length, Option, Some, refl, sym, subst, ap, ◌∙◌, arith}
+use Rattle.object_graph.specs.declared.calls.Call.TheVariants.{Put, Set}
+use Rattle.object_graph.specs.declared.calls.Refusal.{Refusal}
+use Rattle.object_graph.specs.declared.calls.Refusal.TheVariants.{Busy, TooWide}
+use Rattle.store_model.specs.Causes.{first_met, first_refusal, when, stranger, strange_target, bad_field, busy_to_write, too_wide}
+use Rattle.object_graph.specs.NameParts.{NameParts}
+use Rattle.object_graph.specs.SlotParts.{SlotParts}
+use Rattle.object_graph.specs.Graphs.{has_name}
+use Rattle.store_model.specs.Worlds.{World, Transaction, Write, nothing, link, assign, view, slots_of, fields_of}
+use Rattle.store_model.specs.Images.{shown_in}
+use Rattle.store_model.specs.Steps.{with_page, with_transaction, writes}
+use Rattle.page_image.specs.Slots.{fresh_slot, with_number, with_ref}
+use Rattle.page_image.specs.Pages.{PageParts, slot_at, with_slot}
+use Rattle.page_buffer.specs.Frames.{frame_at, with_frame, written}
+use Rattle.page_locks.specs.Holding.{is_in_way, IsNobody, IsLeast, AddsExclusive}
+use Rattle.transactions.specs.Tables.{OpenParts, is_wide, knows_target, HaveSameNames, ChangesEntry, NotesPage}
+use Rattle.transactions.specs.Standing.{TransactionsParts, image_in, IsEntry, AreFramesOf, Stands}
+use Rattle.transactions.proofs.Viewed.{written_name}
+use Rattle.transactions.proofs.Seen.{there_fields}
+use Rattle.transactions.proofs.Shown.{length-shown}
+use Rattle.transactions.proofs.Images.{slot_of_known, number_on_page, ref_on_page, write_on_another_page}
+use Rattle.transactions.proofs.Entries.{table_changes, same_pages, same_with_page}
+use Rattle.transactions.proofs.LocksHeld.{locks_exclude}
+use Rattle.transactions.proofs.FramesSeen.{sees, frames_change}
+use Rattle.transactions.proofs.Opened.{IsOpened, open_lawful, known_there, known_placed}
+use Rattle.transactions.proofs.Refusals.{is_open, is_known, is_known_target, is_field, may_write, is_busy_to_write, wide_by, nobody_wrote}
+
+-- ---- what is known before
+
+pub page_in_frames : (s : TransactionsParts) (w : World) (txn : ℕ) (e : OpenParts) (name : NameParts) (page : ℕ) → IsOpened s w txn e → has_name e.known name ≡ true → page ≡ name.page → page < length s.frames
+page_in_frames s w txn e name page o known is =
+    let p = (known_placed s w txn e name o known).0 in
+    let n = o.ready.stands.frames.count in
+    omega arith
+
+pub page_in_locks : (s : TransactionsParts) (w : World) (txn : ℕ) (e : OpenParts) (name : NameParts) (page : ℕ) → IsOpened s w txn e → has_name e.known name ≡ true → page ≡ name.page → page < s.locks.pages
+page_in_locks s w txn e name page o known is =
+    let p = (known_placed s w txn e name o known).0 in
+    let n = o.ready.stands.locks.pages in
+    omega arith
+
+-- the page of a known name, which nobody else wrote, is as the transaction sees it
+pub known_image : (s : TransactionsParts) (w : World) (to_write : Bool) (txn : ℕ) (e : OpenParts) (name : NameParts) (o : IsOpened s w txn e) → has_name e.known name ≡ true
+    → IsNobody (is_in_way to_write s.locks.held txn name.page) → (frame_at s.frames name.page).current ≡ image_in w (view w o.of) name.page
+known_image s w to_write txn e name o known nobody =
+    sees w name.page (frame_at s.frames name.page) txn o.of (o.ready.stands.frames.each name.page (known_placed s w txn e name o known).0) o.found (open_lawful s w txn e o)
+    (λ u ne. nobody_wrote s w to_write txn name.page u o.ready nobody ne)
+
+-- so its slot has the object
+pub record IsSlotOf (image : PageParts) (slot : ℕ) : Type 0 where
+  pub within : slot < length image.slots
+  pub used : (slot_at image slot).in_use ≡ true
+  pub fields : length (slot_at image slot).refs ≡ 4
+
+pub known_slot : (s : TransactionsParts) (w : World) (to_write : Bool) (txn : ℕ) (e : OpenParts) (name : NameParts) (page slot : ℕ) → IsOpened s w txn e → has_name e.known name ≡ true
+    → page ≡ name.page → slot ≡ name.slot → IsNobody (is_in_way to_write s.locks.held txn page) → IsSlotOf (frame_at s.frames page).current slot
+known_slot s w to_write txn e name page slot o known page_is slot_is nobody =
+    let there = known_there s w txn e name o known in
+    let placed = known_placed s w txn e name o known in
+    let here = slot_of_known w o.of name fresh_slot there placed.1 in
+    subst (λ p. IsSlotOf (frame_at s.frames p).current slot) (sym page_is) (subst (λ n. IsSlotOf (frame_at s.frames name.page).current n) (sym slot_is)
+    (subst (λ i. IsSlotOf i name.slot) (sym image) (record {
+      within = let n : length (shown_in w (view w o.of) name.page) ≡ 20 = length-shown (slots_of w name.page) (fields_of w name.page) (view w o.of) w.freed name.page in let p : name.slot < 20 = placed.1 in omega arith;
+      used = ap (λ (x : SlotParts). x.in_use) here;
+      fields = ap (λ (x : SlotParts). length x.refs) here ∙ there_fields w o.of name there o.ready.stands.fields;
+    })))
+  where
+    image : (frame_at s.frames name.page).current ≡ image_in w (view w o.of) name.page
+    image = known_image s w to_write txn e name o known (subst (λ p. IsNobody (is_in_way to_write s.locks.held txn p)) page_is nobody)
+
+-- ---- the causes of a put and of a set
+
+-- those that come after the names are known
+abbrev pub from_page : World → ℕ → NameParts → List (Option Refusal)
+from_page w txn name = busy_to_write w txn name.page ∷ too_wide w txn name.page ∷ []
+
+pub put_known : (s : TransactionsParts) (w : World) (txn : ℕ) (e : OpenParts) (name : NameParts) (value : ℕ) → IsOpened s w txn e → has_name e.known name ≡ true
+    → first_refusal w (Put txn name value) nothing ≡ first_met (from_page w txn name)
+put_known s w txn e name value o known =
+    is_open s w txn e (stranger w txn name ∷ from_page w txn name) o ∙ is_known s w txn e name (from_page w txn name) o known
+
+pub set_known : (s : TransactionsParts) (w : World) (txn : ℕ) (e : OpenParts) (name : NameParts) (field : ℕ) (target : Option NameParts) → IsOpened s w txn e → has_name e.known name ≡ true
+    → knows_target e.known target ≡ true → field < 4 → first_refusal w (Set txn name field target) nothing ≡ first_met (from_page w txn name)
+set_known s w txn e name field target o known known_target low =
+    is_open s w txn e (stranger w txn name ∷ strange_target w txn target ∷ bad_field w name field ∷ from_page w txn name) o
+    ∙ (is_known s w txn e name (strange_target w txn target ∷ bad_field w name field ∷ from_page w txn name) o known
+    ∙ (is_known_target s w txn e target (bad_field w name field ∷ from_page w txn name) o known_target
+    ∙ is_field w name field (from_page w txn name) low))
+
+pub write_busy : (s : TransactionsParts) (w : World) (txn : ℕ) (e : OpenParts) (name : NameParts) (page holder : ℕ) → IsOpened s w txn e → page ≡ name.page
+    → IsLeast (is_in_way true s.locks.held txn page) holder → first_met (from_page w txn name) ≡ Some (Busy holder)
+write_busy s w txn e name page holder o is least =
+    is_busy_to_write s w txn name.page holder (too_wide w txn name.page ∷ []) o.ready (subst (λ p. IsLeast (is_in_way true s.locks.held txn p) holder) is least)
+
+pub write_wide : (s : TransactionsParts) (w : World) (txn : ℕ) (e : OpenParts) (name : NameParts) (page : ℕ) (b : Bool) → IsOpened s w txn e → page ≡ name.page
+    → IsNobody (is_in_way true s.locks.held txn page) → is_wide e.written page ≡ b → first_met (from_page w txn name) ≡ when b TooWide
+write_wide s w txn e name page b o is nobody wide =
+    may_write s w txn name.page (too_wide w txn name.page ∷ []) o.ready (subst (λ p. IsNobody (is_in_way true s.locks.held txn p)) is nobody)
+    ∙ (wide_by s w txn e name.page b [] o (subst (λ p. is_wide e.written p ≡ b) is wide) ∙ alone b)
+  where
+    alone : (b : Bool) → first_met (when b TooWide ∷ []) ≡ when b TooWide
+    alone true = refl
+    alone false = refl
+
+-- ---- the write
+
+-- a slot after a write
+abbrev pub slot_written : Write → SlotParts → SlotParts
+slot_written (link name field target) = with_ref field target
+slot_written (assign name value) = with_number value
+
+-- the code's steps
+pub record HasWritten (s new : TransactionsParts) (txn page slot : ℕ) (write : Write) : Type 0 where
+  pub nobody : IsNobody (is_in_way true s.locks.held txn page)
+  pub locked : AddsExclusive s.locks.held new.locks.held txn page
+  pub pages : new.locks.pages ≡ s.locks.pages
+  pub noted : ChangesEntry (NotesPage page) txn s.table new.table
+  pub frames : new.frames ≡ with_frame s.frames page (written (frame_at s.frames page) (with_slot (frame_at s.frames page).current slot (slot_written write)))
+
+entry_writes : (e f : OpenParts) (t : Transaction) (write : Write) (page : ℕ) → IsEntry e t → NotesPage page e f → IsEntry f (writes write page t)
+entry_writes e f t write page h notes = record {
+  known = subst (λ k. HaveSameNames k t.known) (sym notes.known) h.known;
+  written = same_pages f.written (with_page page e.written) (with_page page t.pages_written) notes.written (same_with_page page e.written t.pages_written h.written);
+}
+
+image_written : (s : TransactionsParts) (w : World) (txn : ℕ) (e : OpenParts) (write : Write) (o : IsOpened s w txn e) → has_name e.known (written_name write) ≡ true
+    → with_slot (image_in w (view w o.of) (written_name write).page) (written_name write).slot (slot_written write)
+    ≡ image_in w (view w (writes write (written_name write).page o.of)) (written_name write).page
+image_written s w txn e (link name field target) o known =
+    ap (λ slots. record { number = name.page; slots = slots })
+    (ref_on_page w o.of name field target name.page fresh_slot (known_there s w txn e name o known) (known_placed s w txn e name o known).1)
+image_written s w txn e (assign name value) o known =
+    ap (λ slots. record { number = name.page; slots = slots })
+    (number_on_page w o.of name value name.page fresh_slot (known_there s w txn e name o known) (known_placed s w txn e name o known).1)
+
+stands_here : (s new : TransactionsParts) (w : World) (txn : ℕ) (e : OpenParts) (write : Write) → IsOpened s w txn e → has_name e.known (written_name write) ≡ true
+    → HasWritten s new txn (written_name write).page (written_name write).slot write
+    → Stands new (with_transaction w txn (writes write (written_name write).page))
+stands_here s new w txn e write o known run = record {
+  limit = o.ready.stands.limit;
+  fields = o.ready.stands.fields;
+  table = table_changes w s.table new.table txn e o.of (NotesPage page) change o.ready.stands.table o.is o.found (λ t. refl) run.noted (λ f h. entry_writes e f o.of write page o.entry h);
+  locks = locks_exclude w s.locks new.locks txn page change o.of o.ready.stands.locks o.found (λ t. refl) refl refl run.pages run.locked;
+  frames = subst (AreFramesOf (with_transaction w txn change)) (sym run.frames)
+      (frames_change w s.frames txn page (written (frame_at s.frames page) (with_slot (frame_at s.frames page).current slot (slot_written write))) change o.of
+      o.ready.stands.frames (known_placed s w txn e (written_name write) o known).0 o.found (λ t. refl) refl
+      (λ u ne. nobody_wrote s w true txn page u o.ready run.nobody ne) refl refl
+      (ap (λ image. with_slot image slot (slot_written write)) (known_image s w true txn e (written_name write) o known run.nobody) ∙ image_written s w txn e write o known)
+      (λ p ne. ap (λ slots. record { number = p; slots = slots }) (write_on_another_page w o.of write page p (λ f. ne (sym f)))));
+}
+  where
+    page : ℕ
+    page = (written_name write).page
+
+    slot : ℕ
+    slot = (written_name write).slot
+
+    change : Transaction → Transaction
+    change = writes write (written_name write).page
+
+-- all stands for the world after the write
+pub write_stands : (s new : TransactionsParts) (w : World) (txn : ℕ) (e : OpenParts) (page slot : ℕ) (write : Write) → IsOpened s w txn e → has_name e.known (written_name write) ≡ true
+    → page ≡ (written_name write).page → slot ≡ (written_name write).slot → HasWritten s new txn page slot write
+    → Stands new (with_transaction w txn (writes write (written_name write).page))
+write_stands s new w txn e page slot write o known page_is slot_is run =
+    stands_here s new w txn e write o known
+    (subst (λ p. HasWritten s new txn p (written_name write).slot write) page_is (subst (λ n. HasWritten s new txn page n write) slot_is run))

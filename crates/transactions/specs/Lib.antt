@@ -1,0 +1,4 @@
+pub mod KnownNumbers
+pub mod Tables
+pub mod Standing
+pub mod Calls

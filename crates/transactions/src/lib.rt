@@ -1,0 +1,16 @@
+//! The calls of open transactions, under page locks, over the frames of a store's pages.
+#![tactic(auto)]
+
+mod finishing;
+mod known;
+mod laws;
+mod open;
+mod reading;
+mod table;
+#[cfg(test)]
+mod tests;
+mod transactions;
+mod writing;
+
+pub use laws::each_call_leaves_them_ready;
+pub use transactions::Transactions;

@@ -1,0 +1,93 @@
+//! The table of open transactions.
+ghost use Rattle.std.specs.Prelude.{◌≡◌, ℕ, ◌<◌, ◌++◌, ◌∷◌, [], true, false, not, filter, nat_eq, is_some, None, IfOk, OnOk, OnErr, IfSome, length, option_copied};
+ghost use Rattle.transactions.specs.Tables.{Entries, OpenParts, entry_of, fresh_entry, is_wide, is_full_for, ChangesEntry, NotesPage, NotesTarget};
+
+use crate::open::Open;
+use indexmap::IndexMap;
+use object_graph::{Memory, Name};
+use std::alloc::Global;
+use std::marker::Model;
+
+/// How many transactions can be open.
+pub const MOST_OPEN: usize = 64;
+
+/// The open transactions by their numbers, in the order in which they began. `new` and `add` take
+/// memory, and no other call does.
+#[derive(Drop)]
+pub struct Table {
+    alloc: Global,
+    entries: IndexMap<u32, Open>,
+}
+
+impl Model for Table {
+    ghost use Rattle.transactions.specs.Tables.{Entries};
+
+    ghost Value = { Entries };
+
+    ghost view = { λ t. t.entries.entries };
+}
+
+impl Table {
+    pub fn new(alloc: Global) -> Result<Table, Memory>
+        ensures { IfOk result (λ table. table ≡ []) }
+    {
+        let entries = IndexMap::with_capacity(alloc, MOST_OPEN)?;
+        Ok(Table { alloc, entries })
+    }
+
+    pub fn count(&self) -> usize
+        ensures { result ≡ length self.now }
+    {
+        self.entries.len()
+    }
+
+    pub fn has(&self, txn: u32) -> bool
+        ensures { result ≡ is_some (entry_of self.now txn) }
+    {
+        self.entries.contains_key(&txn)
+    }
+
+    pub fn find(&self, txn: u32) -> Option<&Open>
+        ensures { option_copied result ≡ entry_of self.now txn }
+    {
+        self.entries.get(&txn)
+    }
+
+    /// Adds a transaction as it begins.
+    pub fn add(&mut self, txn: u32) -> Result<(), Memory>
+        requires { entry_of self.old txn ≡ None }
+        ensures added { OnOk result (self.new ≡ self.old ++ (txn, fresh_entry) ∷ []) }
+        ensures unchanged { OnErr result (self.new ≡ self.old) }
+    {
+        let entry = Open::new(self.alloc)?;
+        self.entries.insert(txn, entry)?;
+        Ok(())
+    }
+
+    /// Notes a page as written by a transaction.
+    pub fn note_page(&mut self, txn: u32, page: u32)
+        requires { (e : OpenParts) → entry_of self.old txn ≡ Some e → is_wide e.written page ≡ false }
+        ensures { ChangesEntry (NotesPage page) txn self.old self.new }
+    {
+        if let Some(entry) = self.entries.get_mut(&txn) {
+            entry.note_page(page);
+        }
+    }
+
+    /// Notes a name that was answered as known to a transaction.
+    pub fn note_target(&mut self, txn: u32, target: &Option<Name>)
+        requires { (e : OpenParts) → entry_of self.old txn ≡ Some e → is_full_for e.known target.now ≡ false }
+        ensures { ChangesEntry (NotesTarget target.now) txn self.old self.new }
+    {
+        if let Some(entry) = self.entries.get_mut(&txn) {
+            entry.note_target(target);
+        }
+    }
+
+    /// Takes a transaction out.
+    pub fn remove(&mut self, txn: u32)
+        ensures { self.new ≡ filter (λ e. not (nat_eq txn e.0)) self.old }
+    {
+        self.entries.retain(|number, _| *number != txn);
+    }
+}

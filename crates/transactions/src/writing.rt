@@ -1,0 +1,126 @@
+//! What a transaction writes and makes.
+ghost use Rattle.std.specs.Prelude.{◌≡◌, ◌+◌, ◌≤◌, OnErr};
+ghost use Rattle.object_graph.specs.declared.calls.Call.TheVariants.{New, Put, Set};
+ghost use Rattle.transactions.specs.Standing.{IsReadyForSome};
+ghost use Rattle.transactions.specs.Calls.{StepsWell, done_reply, made_reply};
+
+use crate::transactions::Transactions;
+use object_graph::{Name, Refusal, Steps};
+use page_locks::Busy;
+use std::sync::ledger::Ledger;
+
+impl Transactions {
+    /// Sets a reference of an object. The transaction has the page of the object exclusive from then
+    /// on.
+    pub fn set<L: Ledger>(
+        &mut self,
+        txn: u32,
+        name: Name,
+        field: u32,
+        target: Option<Name>,
+        steps: &mut Steps<L>,
+    ) -> Result<(), Refusal>
+        requires { IsReadyForSome self.old }
+        ensures steps { StepsWell self.old self.new (Set txn name field target) (done_reply result) }
+        ensures unchanged { OnErr result (self.new ≡ self.old) }
+        ensures ticks { steps.new ≤ steps.old + 1 }
+    {
+        let Some(entry) = self.table.find(txn) else {
+            return Err(Refusal::NotOpen);
+        };
+        if !entry.knows(name) || !entry.knows_target(&target) {
+            return Err(Refusal::Stranger);
+        }
+        if field >= 4 {
+            return Err(Refusal::BadField);
+        }
+        let page = name.page();
+        if let Err(Busy { holder }) = self.locks.check_exclusive(txn, page) {
+            return Err(Refusal::Busy { holder });
+        }
+        if entry.is_too_wide(page) {
+            return Err(Refusal::TooWide);
+        }
+        let Ok(()) = self.locks.try_exclusive(txn, page) else {
+            unreachable!();
+        };
+        self.table.note_page(txn, page);
+        self.buffer
+            .write_ref(page, name.slot(), field, target, steps);
+        Ok(())
+    }
+
+    /// Sets the number of an object. The transaction has the page of the object exclusive from then
+    /// on.
+    pub fn put<L: Ledger>(
+        &mut self,
+        txn: u32,
+        name: Name,
+        value: u64,
+        steps: &mut Steps<L>,
+    ) -> Result<(), Refusal>
+        requires { IsReadyForSome self.old }
+        ensures steps { StepsWell self.old self.new (Put txn name value) (done_reply result) }
+        ensures unchanged { OnErr result (self.new ≡ self.old) }
+        ensures ticks { steps.new ≤ steps.old + 1 }
+    {
+        let Some(entry) = self.table.find(txn) else {
+            return Err(Refusal::NotOpen);
+        };
+        if !entry.knows(name) {
+            return Err(Refusal::Stranger);
+        }
+        let page = name.page();
+        if let Err(Busy { holder }) = self.locks.check_exclusive(txn, page) {
+            return Err(Refusal::Busy { holder });
+        }
+        if entry.is_too_wide(page) {
+            return Err(Refusal::TooWide);
+        }
+        let Ok(()) = self.locks.try_exclusive(txn, page) else {
+            unreachable!();
+        };
+        self.table.note_page(txn, page);
+        self.buffer.write_number(page, name.slot(), value, steps);
+        Ok(())
+    }
+
+    /// A new object on a page, with number 0 and no references. The transaction knows its name, and
+    /// has the page exclusive from then on.
+    pub fn create<L: Ledger>(
+        &mut self,
+        txn: u32,
+        page: u32,
+        steps: &mut Steps<L>,
+    ) -> Result<Name, Refusal>
+        requires { IsReadyForSome self.old }
+        ensures steps { StepsWell self.old self.new (New txn page) (made_reply result) }
+        ensures unchanged { OnErr result (self.new ≡ self.old) }
+        ensures ticks { steps.new ≤ steps.old + 1 }
+    {
+        let Some(entry) = self.table.find(txn) else {
+            return Err(Refusal::NotOpen);
+        };
+        if page >= self.buffer.count() {
+            return Err(Refusal::NoPage);
+        }
+        if let Err(Busy { holder }) = self.locks.check_exclusive(txn, page) {
+            return Err(Refusal::Busy { holder });
+        }
+        if entry.is_too_wide(page) {
+            return Err(Refusal::TooWide);
+        }
+        if entry.knows_most() {
+            return Err(Refusal::KnowsTooMany);
+        }
+        let Ok(name) = self.buffer.take_slot(page, steps) else {
+            return Err(Refusal::PageFull { page });
+        };
+        let Ok(()) = self.locks.try_exclusive(txn, page) else {
+            unreachable!();
+        };
+        self.table.note_page(txn, page);
+        self.table.note_target(txn, &Some(name));
+        Ok(name)
+    }
+}
