@@ -25,10 +25,10 @@ enum Home {
 
 use Home::{Empty, Object, Torn, Zeros};
 
-fn home_at<D: Disk>(disk: &mut D, at: u64) -> Result<Home, Fail> {
+fn home_at<D: Disk>(disk: &mut D, page: u64) -> Result<Home, Fail> {
     let mut image = [0; 1024];
-    if at + 1024 <= disk.len() {
-        disk.read_at(at, &mut image)?;
+    if disk.len() >= TWO_PAGES && page < 2 {
+        disk.read_at(HOMES + 1024 * page, &mut image)?;
     }
     match Page::decode(&image) {
         Ok(page) if page.object(0).is_some() => Ok(Object),
@@ -40,7 +40,7 @@ fn home_at<D: Disk>(disk: &mut D, at: u64) -> Result<Home, Fail> {
 
 /// The homes of pages 0 and 1.
 fn homes<D: Disk>(disk: &mut D) -> Result<(Home, Home), Fail> {
-    Ok((home_at(disk, HOMES)?, home_at(disk, HOMES + 1024)?))
+    Ok((home_at(disk, 0)?, home_at(disk, 1)?))
 }
 
 /// Opens an area of a store of two pages.
