@@ -3,4 +3,4 @@ use Rattle.transactions.proofs.tests.worked.a_page_fills.Given as goal
 
 -- the next call can be made
 abbrev pub invariant-loop-slot : goal.invariant-loop-slot
-invariant-loop-slot l = IsReadyForSome l.player.store
+invariant-loop-slot g l = IsReadyForSome l.player.store

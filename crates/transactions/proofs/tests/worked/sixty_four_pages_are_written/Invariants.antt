@@ -3,4 +3,4 @@ use Rattle.transactions.proofs.tests.worked.sixty_four_pages_are_written.Given a
 
 -- the next call can be made
 abbrev pub invariant-loop-page : goal.invariant-loop-page
-invariant-loop-page l = IsReadyForSome l.player.store
+invariant-loop-page g l = IsReadyForSome l.player.store
