@@ -1,11 +1,11 @@
 -- What the store file holds while a record is appended.
-use Rattle.std.proofs.Common.{◌≡◌, ◌≢◌, ◌⊎◌, inl, inr, ⊎_elim, ℕ, zero, suc, ◌+◌, ◌-◌, ◌<◌, ◌≤◌, List, [], ◌∷◌, ◌++◌, length, get_or, take, drop, Result, Ok, Err, refl, sym, ◌∙◌, ap, subst, arith, append_assoc, length-append, length-drop}
-use Rattle.std.proofs.lemmas.List.{take-take, length-take, length-take-le, drop-take, drop-drop, drop_at, get_or-take, get_or-drop, get_or_at}
+use Rattle.std.proofs.Common.{◌≡◌, inl, inr, ⊎_elim, ℕ, zero, suc, ◌+◌, ◌-◌, ◌<◌, ◌≤◌, List, [], ◌∷◌, ◌++◌, length, get_or, take, drop, refl, sym, ◌∙◌, ap, subst, arith, append_assoc, length-append, length-drop}
+use Rattle.std.proofs.lemmas.List.{take-take, length-take-le, drop-take, drop-drop, drop_at, get_or-take, get_or-drop, get_or_at}
 use Rattle.std.proofs.lemmas.List.Sums.{sum_by-append}
 use Rattle.disk_trait.specs.Disk.{piece, written, Torn}
 use Rattle.disk_trait.specs.NoteLaws.{length-written, torn_written}
 use Rattle.redo_journal.specs.Walk.{Grammar, taken, weights}
-use Rattle.redo_journal.specs.Area.{Holds, HoldsBeforeOrAfter, IsStaged, area_start, area_size, area_of, first_gate}
+use Rattle.redo_journal.specs.Area.{Holds, HoldsBeforeOrAfter, IsStaged, area_start, area_size, area_of}
 use Rattle.redo_journal.specs.Gated.{TornBehind, behind_open}
 use Rattle.redo_journal.proofs.WalkLaws.{IsLocal, taken-cons, weights-cons}
 use Rattle.redo_journal.proofs.AreaLaws.{behind_closed, gate_open, gate_either}

@@ -1,12 +1,11 @@
 -- A record is read from its own bytes.
-use Rattle.std.proofs.Common.{◌≡◌, ℕ, zero, suc, ◌+◌, ◌*◌, ◌^◌, ◌<◌, ◌≤◌, Bool, true, false, cond, ltb, leb, eqb, ◌&&◌, List, [], ◌∷◌, length, get_or, take, drop, Result, Ok, Err, refl, sym, ◌∙◌, ap, subst, arith}
+use Rattle.std.proofs.Common.{◌≡◌, ℕ, zero, suc, ◌+◌, ◌*◌, ◌≤◌, Bool, true, false, cond, leb, ◌&&◌, List, [], ◌∷◌, length, get_or, take, drop, Result, Ok, Err, refl, sym, ◌∙◌, ap, arith}
 use Rattle.std.specs.Int.{w32, from_be_bytes}
-use Rattle.std.proofs.lemmas.Bool.{and_parts, leb-true, cases_Bool}
+use Rattle.std.proofs.lemmas.Bool.{and_parts, leb-true}
 use Rattle.std.proofs.lemmas.List.{take-take, drop-take, get_or-take}
 use Rattle.page_image.specs.Pages.{PageParts}
-use Rattle.page_image.specs.Fields.{page_at}
 use Rattle.redo_journal.specs.Record.{RecordParts, image_at, images_at, kind_at, is_count, count_at, record_at, grammar, commits_of, commits_in}
-use Rattle.redo_journal.specs.Results.{◌>>=◌, from_place}
+use Rattle.redo_journal.specs.Results.{◌>>=◌}
 use Rattle.redo_journal.specs.Judging.{IsFaultIn}
 use Rattle.redo_journal.specs.declared.kind.Kind.{Kind}
 use Rattle.redo_journal.specs.declared.faults.AreaFault.{AreaFault}

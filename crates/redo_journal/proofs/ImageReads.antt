@@ -1,10 +1,10 @@
 -- How one page image is read.
-use Rattle.std.proofs.Common.{◌≡◌, ◌≢◌, ◌⊎◌, inl, inr, ℕ, ◌+◌, ◌<◌, ◌≤◌, Bool, true, false, ◌&&◌, leb, ltb, List, take, drop, Result, Ok, Err, refl}
+use Rattle.std.proofs.Common.{◌≡◌, ◌≢◌, ◌⊎◌, inl, inr, ℕ, ◌+◌, ◌<◌, ◌≤◌, Bool, true, false, ◌&&◌, leb, ltb, List, take, drop, Ok, Err, refl}
 use Rattle.std.specs.Int.{w32, from_be_bytes}
 use Rattle.std.proofs.lemmas.Bool.{le-leb, lt-leb, lt-ltb, le-ltb, eq-eqb, ne_eqb}
 use Rattle.page_image.specs.Pages.{PageParts}
 use Rattle.page_image.specs.Fields.{page_at}
-use Rattle.redo_journal.specs.Results.{◌>>=◌, from_place}
+use Rattle.redo_journal.specs.Results.{from_place}
 use Rattle.redo_journal.specs.Judging.{IsFaultIn}
 use Rattle.redo_journal.specs.Record.{image_at}
 use Rattle.redo_journal.specs.declared.faults.AreaFault.{AreaFault}

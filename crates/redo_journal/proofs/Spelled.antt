@@ -1,5 +1,5 @@
 -- A record is read from its spelling.
-use Rattle.std.proofs.Common.{◌≡◌, ℕ, zero, suc, ◌+◌, ◌*◌, ◌^◌, ◌<◌, ◌≤◌, true, leb, ◌&&◌, List, [], ◌∷◌, ◌++◌, length, get_or, take, drop, Result, Ok, Err, refl, sym, ◌∙◌, ap, subst, arith, append_assoc, length-append}
+use Rattle.std.proofs.Common.{◌≡◌, ℕ, suc, ◌+◌, ◌*◌, ◌^◌, ◌<◌, ◌≤◌, true, leb, List, [], ◌∷◌, ◌++◌, length, take, drop, Ok, refl, sym, ◌∙◌, ap, arith, append_assoc, length-append}
 use Rattle.std.specs.List.{AllByRecursion, flat_map}
 use Rattle.std.specs.Int.{w32, to_be_bytes, from_be_bytes}
 use Rattle.std.proofs.lemmas.Bool.{le-leb, lt-ltb, eq-eqb}
@@ -10,7 +10,7 @@ use Rattle.page_image.specs.Pages.{PageParts}
 use Rattle.page_image.specs.Fields.{page_at}
 use Rattle.page_image.specs.Spelling.{page_bytes}
 use Rattle.redo_journal.specs.Area.{IsStaged, most_commits}
-use Rattle.redo_journal.specs.Results.{◌>>=◌, from_place}
+use Rattle.redo_journal.specs.Results.{from_place}
 use Rattle.redo_journal.specs.Record.{RecordParts, ReadsBack, IsRecordOf, image_at, images_at, kind_at, is_count, count_at, record_at, grammar, image_bytes, kind_byte, record_bytes}
 use Rattle.redo_journal.specs.declared.kind.Kind.{Kind}
 use Rattle.redo_journal.specs.declared.kind.Kind.TheVariants.{Commit, Sweep}

@@ -1,5 +1,5 @@
 -- What contracts see of a journal, and what it says of a store file.
-use Rattle.std.specs.Prelude.{◌≡◌, ℕ, ◌+◌, ◌-◌, ◌*◌, ◌≤◌, ◌<◌, List, [], ◌∷◌, ◌++◌, Option, Some, None, IfSome, length, option_map}
+use Rattle.std.specs.Prelude.{◌≡◌, ℕ, ◌+◌, ◌-◌, ◌≤◌, ◌<◌, List, [], ◌∷◌, ◌++◌, Option, Some, None, IfSome, option_map}
 use Rattle.disk_trait.specs.Disk.{Torn}
 use Rattle.page_image.specs.Pages.{PageParts}
 use Rattle.redo_journal.specs.Area.{Holds, HoldsBeforeOrAfter, area_size, area_start, first_gate, most_commits}

@@ -21,6 +21,7 @@ pub(crate) fn write_behind<D: Disk>(disk: &mut D, gate: u64, bytes: &[u8]) -> Re
         → LeavesOnly D.moment D.left_since disk.old disk.new (TornBehind gate bytes.now c) }
     ensures done { OnOk result (D.content disk.new ≡ option_map (behind_open gate bytes.now) (D.content disk.old)) }
     ensures synced { OnOk result (IsSynced (D.content disk.new) (D.may_leave disk.new)) }
+    ensures told { SameTold (D.content disk.old) (D.content disk.new) }
     ensures size { D.size disk.new ≡ D.size disk.old }
     ensures cause { HasCause (D.fault_count disk.old) (D.fault_count disk.new) result }
 {
@@ -48,6 +49,7 @@ pub(crate) fn write_record<D: Disk>(
     ensures synced { OnOk result (IsSynced (D.content disk.new) (D.may_leave disk.new)) }
     ensures again { AllByRecursion ReadsBack images.now }
     ensures room { length buffer.new ≡ 65798 }
+    ensures told { SameTold (D.content disk.old) (D.content disk.new) }
     ensures size { D.size disk.new ≡ D.size disk.old }
     ensures cause { HasCause (D.fault_count disk.old) (D.fault_count disk.new) result }
 {

@@ -1,6 +1,6 @@
 //! The journal of a store.
 ghost use Rattle.std.specs.Prelude.{◌≡◌, ◌≤◌, ◌<◌, ◌+◌, ◌↔◌, ◌++◌, ◌∷◌, [], List, ℕ, Some, None, IfSome, IsSomeAnd, IfOk, OnOk, OnErr, IsErrOf, Err, length, vec_capacity};
-ghost use Rattle.disk_trait.specs.Causes.{Rose};
+ghost use Rattle.disk_trait.specs.Causes.{Rose, SameTold};
 ghost use Rattle.disk_trait.specs.Disk.{Only, SameImages, IsSynced, LeavesOnly};
 ghost use Rattle.page_image.specs.Pages.{PageParts};
 ghost use Rattle.redo_journal.specs.Area.{area_size, area_start, area_of, read_area, most_commits};
@@ -196,11 +196,13 @@ impl Journal {
         ensures appended { OnOk result (IfSome self.old.staged (λ r. self.new ≡ appended r self.old)) }
 
         // It is refused for want of room exactly where the record is too long, without a call of the disk.
-        ensures no_room { (result ≡ Err (AppendFault.NoRoom (need_of self.old.staged) (left_of self.old))) ↔ (left_of self.old < need_of self.old.staged) }
+        ensures no_room { (need left : ℕ) → (result ≡ Err (AppendFault.NoRoom need left)) ↔ ((need ≡ need_of self.old.staged) × (left ≡ left_of self.old) × (left < need)) }
         ensures no_call { left_of self.old < need_of self.old.staged → disk.new ≡ disk.old }
         ensures unchanged { OnErr result (self.new ≡ self.old) }
+
         ensures fault { IsErrOf result AppendFault.DiskFault → Rose (D.fault_count disk.old) (D.fault_count disk.new) }
         ensures later { D.fault_count disk.old ≤ D.fault_count disk.new }
+        ensures told { SameTold (D.content disk.old) (D.content disk.new) }
         ensures size { D.size disk.new ≡ D.size disk.old }
     {
         let need = self.need();

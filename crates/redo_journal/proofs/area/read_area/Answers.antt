@@ -1,7 +1,6 @@
-use Rattle.std.proofs.Common.{◌≡◌, ℕ, List, ◌+◌, ◌*◌, length, Ok, Err, refl, sym, ◌∙◌, ap, arith}
+use Rattle.std.proofs.Common.{◌≡◌, ℕ, length, ◌∙◌, ap}
 use Rattle.std.proofs.lemmas.List.{with_items_is}
 use Rattle.disk_trait.specs.Disk.{piece}
-use Rattle.redo_journal.specs.Area.{area_start, area_of}
 use Rattle.redo_journal.proofs.Moments.{started, looked, if_some_map}
 use Rattle.redo_journal.proofs.area.read_area.Goals as goal
 

@@ -1,8 +1,6 @@
-use Rattle.std.proofs.Common.{◌≡◌, ◌≢◌, ◌⊎◌, ◌≤◌, ◌<◌, ◌-◌, ⊎_elim, ℕ, List, ◌+◌, take, drop, Result, Ok, Err, sym, ◌∙◌, ap, subst, arith, inl, inr}
-use Rattle.std.specs.Int.{w32, from_be_bytes}
+use Rattle.std.proofs.Common.{◌≡◌, ⊎_elim, ℕ, List, ◌+◌, take, sym, ◌∙◌, ap, subst, arith, inl, inr}
 use Rattle.std.proofs.lemmas.Result.{err_from_is_err_and}
 use Rattle.page_image.specs.Fields.{page_at}
-use Rattle.page_image.specs.Pages.{PageParts}
 use Rattle.redo_journal.specs.Results.{from_place}
 use Rattle.redo_journal.specs.Judging.{IsFaultIn}
 use Rattle.redo_journal.proofs.ImageReads.{number_in, image_out, image_fault, image_other, image_is}

@@ -1,4 +1,4 @@
-use Rattle.std.proofs.Common.{◌≡◌, ℕ, List, ◌+◌, take, Ok, Err, sym, ◌∙◌, ap}
+use Rattle.std.proofs.Common.{◌≡◌, ℕ, ◌+◌, take, Err, sym, ◌∙◌, ap}
 use Rattle.page_image.specs.Fields.{page_at}
 use Rattle.redo_journal.specs.Results.{from_place}
 use Rattle.redo_journal.proofs.fields.page_of.Goals as goal

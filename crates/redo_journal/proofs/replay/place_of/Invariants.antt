@@ -1,4 +1,4 @@
-use Rattle.std.proofs.Common.{◌≡◌, ℕ, ◌<◌, get_or}
+use Rattle.std.proofs.Common.{ℕ, ◌<◌, get_or}
 use Rattle.redo_journal.specs.Record.{numbers_of}
 use Rattle.redo_journal.proofs.replay.place_of.Given as goal
 

@@ -1,7 +1,6 @@
-use Rattle.std.proofs.Common.{◌≡◌, ◌+◌, ℕ, List, Result, length, drop, sym, ◌∙◌, ap, subst, Ok}
+use Rattle.std.proofs.Common.{◌≡◌, ◌+◌, ℕ, List, drop, sym, ◌∙◌, ap, subst, Ok}
 use Rattle.std.proofs.lemmas.Bool.{eqb-true}
 use Rattle.std.proofs.lemmas.Result.{err_from_is_err_and}
-use Rattle.page_image.specs.Pages.{PageParts}
 use Rattle.redo_journal.specs.Judging.{IsFaultIn}
 use Rattle.redo_journal.specs.Record.{images_at}
 use Rattle.redo_journal.proofs.GrammarLaws.{record_read, record_none, kind_fault, count_fault, pages_fault}

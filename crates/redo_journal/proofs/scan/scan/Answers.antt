@@ -1,11 +1,11 @@
-use Rattle.std.proofs.Common.{◌≡◌, ℕ, List, [], ◌∷◌, ◌++◌, ◌+◌, ◌-◌, ◌*◌, ◌<◌, ◌≤◌, length, get_or, drop, Result, Ok, Err, refl, sym, ◌∙◌, ap, subst, arith, length-drop}
+use Rattle.std.proofs.Common.{◌≡◌, ℕ, List, [], ◌∷◌, ◌++◌, ◌+◌, ◌*◌, ◌<◌, ◌≤◌, length, drop, Result, Ok, refl, sym, ◌∙◌, ap, subst, arith, length-drop}
 use Rattle.std.proofs.lemmas.List.{flat_map_more}
 use Rattle.std.proofs.lemmas.List.Sums.{sum_by_push}
 use Rattle.std.proofs.lemmas.Result.{err_from_is_err_and}
 use Rattle.page_image.specs.Pages.{PageParts}
 use Rattle.redo_journal.specs.Judging.{IsFaultIn}
-use Rattle.redo_journal.specs.Walk.{walk, with_front}
-use Rattle.redo_journal.specs.Record.{RecordParts, record_at, grammar, commits_of, commits_in}
+use Rattle.redo_journal.specs.Walk.{walk}
+use Rattle.redo_journal.specs.Record.{RecordParts, record_at, grammar, commits_of}
 use Rattle.redo_journal.specs.Replays.{AreLatest, IsLaidOver, images_in}
 use Rattle.redo_journal.specs.declared.kind.Kind.{Kind}
 use Rattle.redo_journal.specs.declared.kind.Kind.TheVariants.{Commit, Sweep}

@@ -1,4 +1,4 @@
-use Rattle.std.proofs.Common.{◌≡◌, ◌+◌, ◌-◌, ◌<◌, ◌≤◌, length, List, [], drop}
+use Rattle.std.proofs.Common.{◌≡◌, ◌+◌, ◌-◌, ◌<◌, ◌≤◌, List, [], drop}
 use Rattle.redo_journal.specs.Area.{area_size, first_gate, most_commits}
 use Rattle.redo_journal.specs.Walk.{walk, with_front, taken}
 use Rattle.redo_journal.specs.Record.{RecordParts, commits_in, grammar}

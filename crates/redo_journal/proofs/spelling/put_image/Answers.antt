@@ -1,8 +1,7 @@
-use Rattle.std.proofs.Common.{◌≡◌, ℕ, List, ◌+◌, ◌++◌, length, take, Result, Ok, sym, ◌∙◌, ap, subst, arith, append_assoc}
+use Rattle.std.proofs.Common.{◌≡◌, ℕ, List, ◌+◌, ◌++◌, length, take, sym, ◌∙◌, ap, arith, append_assoc}
 use Rattle.std.specs.Int.{w32, to_be_bytes}
 use Rattle.page_image.specs.Fields.{page_at}
 use Rattle.page_image.specs.Spelling.{page_bytes}
-use Rattle.redo_journal.specs.Record.{image_bytes}
 use Rattle.redo_journal.proofs.spelling.put_image.Goals as goal
 
 both : (at : ℕ) (first second third number image : List ℕ) → take (at + 4) second ≡ take at first ++ number → take (at + 4 + 1024) third ≡ take (at + 4) second ++ image → take (at + 1028) third ≡ take at first ++ (number ++ image)

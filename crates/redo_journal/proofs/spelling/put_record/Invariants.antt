@@ -1,7 +1,6 @@
-use Rattle.std.proofs.Common.{◌≡◌, ◌+◌, ◌*◌, ◌++◌, ◌∷◌, ◌≤◌, length, List, take}
+use Rattle.std.proofs.Common.{◌≡◌, ◌+◌, ◌*◌, ◌++◌, ◌∷◌, length, take}
 use Rattle.std.specs.List.{AllByRecursion, flat_map}
 use Rattle.std.specs.Int.{w32, to_be_bytes}
-use Rattle.page_image.specs.Pages.{PageParts}
 use Rattle.redo_journal.specs.Record.{ReadsBack, image_bytes, kind_byte}
 use Rattle.redo_journal.proofs.spelling.put_record.Given as goal
 

@@ -1,11 +1,10 @@
-use Rattle.std.proofs.Common.{◌≡◌, None, Some, ℕ, List, ◌+◌, ◌*◌, ◌≤◌, ◌^◌, refl, sym, ◌∙◌, ap, subst, arith}
+use Rattle.std.proofs.Common.{◌≡◌, None, Some, ℕ, List, ◌+◌, ◌≤◌, ◌^◌, refl, sym, ◌∙◌, ap, subst, arith}
 use Rattle.std.specs.Prelude.{Option, option_map, IsSomeAnd}
 use Rattle.std.proofs.lemmas.Option.{same_Some}
 use Rattle.page_image.specs.Pages.{PageParts}
-use Rattle.disk_trait.specs.Disk.{LeavesOnly}
 use Rattle.redo_journal.specs.Area.{area_start}
 use Rattle.redo_journal.specs.Gated.{TornBehind, behind_open}
-use Rattle.redo_journal.specs.Journals.{JournalParts, IsJournal, HoldsFor, IsAppendedOrNot, IsAppended, appended, staged_of, need_of, left_of}
+use Rattle.redo_journal.specs.Journals.{JournalParts, IsJournal, IsAppendedOrNot, IsAppended, appended, staged_of, need_of}
 use Rattle.redo_journal.specs.Record.{RecordParts, spelled_with_gate, size_of, commits_of}
 use Rattle.redo_journal.specs.declared.kind.Kind.{Kind}
 use Rattle.redo_journal.proofs.Appending.{meanwhile, as_before, afterwards, ready, IsReady}

@@ -1,6 +1,6 @@
-use Rattle.std.proofs.Common.{◌≡◌, ℕ, List, ◌+◌, ◌*◌, ◌<◌, ◌≤◌, length, Result, Ok, Err, sym, ◌∙◌, ap, arith}
+use Rattle.std.proofs.Common.{◌≡◌, ℕ, List, ◌+◌, ◌*◌, ◌<◌, ◌≤◌, length, Result, Err, sym, ◌∙◌, ap, arith}
 use Rattle.std.proofs.lemmas.Result.{err_from_is_err_and}
-use Rattle.redo_journal.specs.Area.{read_area, area_start, area_size, area_of}
+use Rattle.redo_journal.specs.Area.{read_area, area_of}
 use Rattle.redo_journal.specs.Record.{grammar}
 use Rattle.redo_journal.specs.Replays.{images_in}
 use Rattle.redo_journal.specs.declared.faults.AreaFault.{AreaFault}
