@@ -1,11 +1,11 @@
 -- Images that are sent home one behind the other.
-use Rattle.std.proofs.Common.{◌≡◌, ◌⊎◌, inl, inr, ℕ, ◌+◌, ◌*◌, ◌<◌, ◌≤◌, ◌==◌, Bool, true, false, List, [], ◌∷◌, ◌++◌, length, Option, Some, None, Ok, is_some, if◌then◌else◌, refl, sym, ◌∙◌, ap, subst, arith}
-use Rattle.std.proofs.lemmas.Bool.{eq-eqb, eqb-true, cases_Bool}
-use Rattle.disk_trait.specs.Disk.{piece, written, Torn}
+use Rattle.std.proofs.Common.{◌≡◌, ℕ, ◌+◌, ◌≤◌, ◌==◌, Bool, true, false, List, [], ◌∷◌, ◌++◌, length, Option, Some, None, Ok, is_some, if◌then◌else◌, refl, sym, ◌∙◌, ap, subst, arith}
+use Rattle.std.proofs.lemmas.Bool.{eq-eqb, eqb-true}
+use Rattle.disk_trait.specs.Disk.{written, Torn}
 use Rattle.disk_trait.specs.NoteLaws.{torn_written}
 use Rattle.page_image.specs.Pages.{PageParts}
 use Rattle.page_image.specs.Fields.{page_at}
-use Rattle.redo_journal.specs.Homes.{DiffersInHomes, home_start, home_of}
+use Rattle.redo_journal.specs.Homes.{home_start, home_of}
 use Rattle.redo_journal.specs.Replays.{later, last_image}
 use Rattle.redo_journal.specs.Sending.{AreHome, is_among}
 use Rattle.redo_journal.proofs.HomeBytes.{torn_home, home_written, differs_not, differs_then, differs_more, same_home}

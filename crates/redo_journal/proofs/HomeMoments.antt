@@ -1,5 +1,5 @@
 -- Calls that change homes alone.
-use Rattle.std.proofs.Common.{◌≡◌, ◌⊎◌, inl, inr, ⊎_elim, ℕ, ◌+◌, ◌*◌, ◌<◌, ◌≤◌, Bool, true, List, length, Option, Some, None, refl, sym, ◌∙◌, ap, subst, arith}
+use Rattle.std.proofs.Common.{◌≡◌, inl, inr, ⊎_elim, ℕ, ◌≤◌, Bool, true, List, Option, Some, None, refl, sym, ◌∙◌, subst, arith}
 use Rattle.std.specs.Prelude.{IsSomeAnd, IfSome, OnOk, Result, Ok, Err}
 use Rattle.disk_trait.specs.Disk.{Torn, TornContent, LeavesOnly, Only}
 use Rattle.redo_journal.specs.Homes.{DiffersInHomes, home_start}

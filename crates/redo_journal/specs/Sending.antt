@@ -1,5 +1,5 @@
 -- Images as they stand in an area, and what a file and its crash images become as they are sent home.
-use Rattle.std.specs.Prelude.{◌≡◌, ⊤, ℕ, ◌+◌, ◌*◌, ◌-◌, ◌<◌, Bool, List, [], ◌∷◌, ◌++◌, is_some, length, take, Option, Some, IsSomeAnd, Ok}
+use Rattle.std.specs.Prelude.{◌≡◌, ⊤, ℕ, ◌+◌, ◌-◌, ◌<◌, Bool, List, [], ◌∷◌, ◌++◌, is_some, length, Option, Some, IsSomeAnd, Ok}
 use Rattle.std.specs.Int.{w32, w64, from_be_bytes, to_be_bytes}
 use Rattle.disk_trait.specs.Disk.{piece, LeavesOnly}
 use Rattle.page_image.specs.Pages.{PageParts}

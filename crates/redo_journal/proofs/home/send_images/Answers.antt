@@ -1,8 +1,7 @@
-use Rattle.std.proofs.Common.{◌≡◌, ◌≤◌, ◌<◌, ◌+◌, ◌-◌, ◌*◌, ℕ, List, Some, length, refl, sym, ◌∙◌, ap, subst, arith, rules}
-use Rattle.page_image.specs.Pages.{PageParts}
+use Rattle.std.proofs.Common.{◌≤◌, ◌<◌, ◌+◌, ◌-◌, ◌*◌, refl, ◌∙◌, arith}
 use Rattle.redo_journal.specs.Sending.{is_among}
 use Rattle.redo_journal.proofs.HomeMoments.{unchanged}
-use Rattle.redo_journal.proofs.HomeRuns.{images_start, images_next, images_end, images_change}
+use Rattle.redo_journal.proofs.HomeRuns.{images_start, images_next, images_change}
 use Rattle.redo_journal.proofs.home.send_images.Goals as goal
 
 pub loop-i-init : goal.loop-i-init

@@ -1,9 +1,8 @@
-use Rattle.std.proofs.Common.{◌≡◌, ◌≤◌, ◌<◌, ◌+◌, ◌-◌, ◌*◌, ℕ, List, Some, length, is_some, refl, sym, ◌∙◌, ap, subst, arith, rules}
-use Rattle.page_image.specs.Pages.{PageParts}
+use Rattle.std.proofs.Common.{◌≡◌, ◌+◌, ◌*◌, length, is_some, refl, sym, ◌∙◌, ap, subst, arith}
 use Rattle.redo_journal.specs.Replays.{is_named}
 use Rattle.redo_journal.specs.Sending.{number_at}
 use Rattle.redo_journal.proofs.HomeMoments.{unchanged, in_some}
-use Rattle.redo_journal.proofs.HomeRecords.{RecordsLeft, NextRecord, records_start, records_next, records_end, then_looked, record_changes}
+use Rattle.redo_journal.proofs.HomeRecords.{RecordsLeft, records_start, records_next, records_end, then_looked, record_changes}
 use Rattle.redo_journal.proofs.home.send_records.Goals as goal
 
 pub loop-gate-init : goal.loop-gate-init

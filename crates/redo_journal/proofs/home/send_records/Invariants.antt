@@ -1,4 +1,4 @@
-use Rattle.std.proofs.Common.{◌≡◌, ◌≤◌, ◌+◌, ◌-◌, ◌*◌, ℕ, List, Some}
+use Rattle.std.proofs.Common.{◌≡◌, ◌≤◌, ◌-◌, ℕ, List, Some}
 use Rattle.disk_trait.specs.Causes.{SameTold}
 use Rattle.redo_journal.specs.Record.{RecordParts}
 use Rattle.redo_journal.specs.Replays.{is_named}

@@ -1,4 +1,4 @@
-use Rattle.std.proofs.Common.{◌≡◌, ◌≤◌, ◌<◌, ◌+◌, ◌*◌, ℕ, List, Option, Some, None, refl, sym, ◌∙◌, ap, subst, arith, rules}
+use Rattle.std.proofs.Common.{◌≡◌, ◌+◌, ◌*◌, ℕ, List, Some, ◌∙◌, ap, arith}
 use Rattle.std.specs.Prelude.{IsSomeAnd}
 use Rattle.redo_journal.specs.Homes.{DiffersInHomes, AreSentHome}
 use Rattle.redo_journal.specs.Journals.{HoldsFor}

@@ -1,4 +1,4 @@
-use Rattle.std.proofs.Common.{◌≡◌, ℕ, ◌+◌, ◌-◌, ◌*◌, ◌≤◌, List, length, refl, sym, ◌∙◌, ap, arith}
+use Rattle.std.proofs.Common.{◌-◌, refl, ◌∙◌, ap, arith}
 use Rattle.std.specs.Prelude.{option_map}
 use Rattle.disk_trait.specs.Disk.{written}
 use Rattle.redo_journal.specs.Journals.{JournalParts, staged_of}
