@@ -1,9 +1,9 @@
 //! Sending the images of counted records home.
 ghost use Rattle.std.specs.Prelude.{◌≡◌, ◌≤◌, ◌<◌, ◌+◌, ◌*◌, ℕ, List, [], ◌∷◌, Some, IfOk, IfSome, IsSomeAnd, OnOk, length, option_map};
 ghost use Rattle.disk_trait.specs.Causes.{HasCause, SameTold};
-ghost use Rattle.disk_trait.specs.Disk.{piece, written, Torn, Only, SameImages, IsSynced, TornContent, LeavesOnly};
+ghost use Rattle.disk_trait.specs.Disk.{piece, written, Torn, Only, IsSynced, TornContent, LeavesOnly};
 ghost use Rattle.page_image.specs.Pages.{PageParts};
-ghost use Rattle.redo_journal.specs.Homes.{home_start, store_size, DiffersInHomes, AreSentHome};
+ghost use Rattle.redo_journal.specs.Homes.{store_size, DiffersInHomes, AreSentHome};
 ghost use Rattle.redo_journal.specs.Journals.{HoldsFor, IsOn};
 ghost use Rattle.redo_journal.specs.Record.{RecordParts};
 ghost use Rattle.redo_journal.specs.Replays.{is_named, images_in};

@@ -1,5 +1,5 @@
 //! Turning over to the other area.
-ghost use Rattle.std.specs.Prelude.{◌≡◌, ◌≤◌, ◌+◌, ◌-◌, ◌^◌, List, [], ℕ, Some, IfSome, IsSomeAnd, OnOk, OnErr, length, option_map};
+ghost use Rattle.std.specs.Prelude.{◌≡◌, ◌≤◌, ◌+◌, ◌-◌, List, [], ℕ, Some, IfSome, IsSomeAnd, OnOk, OnErr, length, option_map};
 ghost use Rattle.disk_trait.specs.Causes.{HasCause};
 ghost use Rattle.disk_trait.specs.Disk.{written, Torn, Only, IsSynced, TornContent, LeavesOnly};
 ghost use Rattle.redo_journal.specs.Area.{area_start, most_commits};
