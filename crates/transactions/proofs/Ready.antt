@@ -1,5 +1,5 @@
 -- What each call leaves is ready for the next.
-use Rattle.std.proofs.Common.{◌≡◌, ◌≢◌, ℕ, ◌+◌, Bool, true, false, Option, Some, None, List, [], ◌∷◌, refl, sym, subst, ap, ◌∙◌}
+use Rattle.std.proofs.Common.{◌≡◌, ◌≢◌, ℕ, Bool, true, false, Option, Some, None, List, [], ◌∷◌, refl, sym, ap, ◌∙◌}
 use Rattle.std.specs.Option.{is_some, is_none, option_map, unwrap_or, MatchOption}
 use Rattle.std.specs.List.{AllByRecursion}
 use Rattle.object_graph.specs.NameParts.{NameParts}

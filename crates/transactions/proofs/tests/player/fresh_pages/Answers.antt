@@ -1,4 +1,4 @@
-use Rattle.std.proofs.Common.{◌≡◌, ◌≤◌, ◌++◌, ◌∷◌, [], length, sym, subst, ap, ◌∙◌, arith, List, ℕ}
+use Rattle.std.proofs.Common.{◌≡◌, ◌≤◌, ◌++◌, ◌∷◌, [], length, sym, subst, ap, ◌∙◌, arith, List}
 use Rattle.std.specs.Bool.{IsTrue}
 use Rattle.store_model.specs.FromImages.{has_root, IsWhole}
 use Rattle.page_image.specs.Pages.{PageParts}
