@@ -6,7 +6,7 @@ ghost use Rattle.page_buffer.specs.Frames.{frame_at};
 ghost use Rattle.transactions.specs.Standing.{IsReadyForSome};
 ghost use Rattle.transactions.specs.Calls.{StepsWell, num_reply, ref_reply};
 
-use crate::transactions::Transactions;
+use crate::transactions::{FIELDS, Transactions};
 use object_graph::{Name, Object, Refusal, Steps};
 use page_buffer::Buffer;
 use page_locks::Busy;
@@ -43,7 +43,7 @@ impl Transactions {
         if !entry.knows(name) {
             return Err(Refusal::Stranger);
         }
-        if field >= 4 {
+        if field >= FIELDS {
             return Err(Refusal::BadField);
         }
         let page = name.page();

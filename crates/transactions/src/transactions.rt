@@ -21,6 +21,9 @@ use std::alloc::Global;
 use std::marker::Model;
 use std::sync::ledger::Ledger;
 
+/// How many references an object has.
+pub(crate) const FIELDS: u32 = 4;
+
 /// Open transactions over the frames of a store's pages, under strict two-phase page locks. Contracts
 /// see the table, the locks and the frames, and say for each world for which they stand that the
 /// answer is one that the model allows and that they stand for the world after. A refusal takes no

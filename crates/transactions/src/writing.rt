@@ -4,7 +4,7 @@ ghost use Rattle.object_graph.specs.declared.calls.Call.TheVariants.{New, Put, S
 ghost use Rattle.transactions.specs.Standing.{IsReadyForSome};
 ghost use Rattle.transactions.specs.Calls.{StepsWell, done_reply, made_reply};
 
-use crate::transactions::Transactions;
+use crate::transactions::{FIELDS, Transactions};
 use object_graph::{Name, Refusal, Steps};
 use page_locks::Busy;
 use std::sync::ledger::Ledger;
@@ -31,7 +31,7 @@ impl Transactions {
         if !entry.knows(name) || !entry.knows_target(&target) {
             return Err(Refusal::Stranger);
         }
-        if field >= 4 {
+        if field >= FIELDS {
             return Err(Refusal::BadField);
         }
         let page = name.page();

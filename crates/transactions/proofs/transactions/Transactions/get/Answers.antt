@@ -24,7 +24,7 @@ returns-in-Err-clause-steps g c = λ w r.
     let o = opened c.args.self.now _ w c.args.txn c.in-Some.entry.now (sym c.self.view_is) (sym c.in-Some.ensures) r in
     record {
       allowed = refused w (Get c.args.txn c.args.name c.args.field) (Busy c.in-Err.field-0.holder)
-          (get_busy _ w c.args.txn c.in-Some.entry.now c.args.name c.args.field c.page-page.result c.in-Err.field-0.holder o (sym c.if-not-knows.ensures) c.if-field-ge4.false c.page-page.ensures.value c.in-Err.ensures.busy);
+          (get_busy _ w c.args.txn c.in-Some.entry.now c.args.name c.args.field c.page-page.result c.in-Err.field-0.holder o (sym c.if-not-knows.ensures) c.if-field-ge-FIELDS.false c.page-page.ensures.value c.in-Err.ensures.busy);
       stands = r.stands;
     }
 
@@ -44,10 +44,10 @@ pub returns-then-has_no_room_for-clause-steps : goal.returns-then-has_no_room_fo
 returns-then-has_no_room_for-clause-steps g c = λ w r.
     let o = opened c.args.self.now _ w c.args.txn c.in-Some.entry.now (sym c.self.view_is) (sym c.in-Some.ensures) r in
     let seen = read_field _ w c.args.txn c.in-Some.entry.now c.args.name c.page-page.result c.args.field c.in-Some-object_seen.object c.index-object-field.result o (sym c.if-not-knows.ensures)
-    c.page-page.ensures.value c.in_default-check_shared.ensures.free (sym c.in-Some-object_seen.ensures.object) c.if-field-ge4.false in
+    c.page-page.ensures.value c.in_default-check_shared.ensures.free (sym c.in-Some-object_seen.ensures.object) c.if-field-ge-FIELDS.false in
     record {
       allowed = refused w (Get c.args.txn c.args.name c.args.field) KnowsTooMany
-          (get_full _ w c.args.txn c.in-Some.entry.now c.args.name c.args.field c.page-page.result _ _ o (sym c.if-not-knows.ensures) c.if-field-ge4.false c.page-page.ensures.value
+          (get_full _ w c.args.txn c.in-Some.entry.now c.args.name c.args.field c.page-page.result _ _ o (sym c.if-not-knows.ensures) c.if-field-ge-FIELDS.false c.page-page.ensures.value
           c.in_default-check_shared.ensures.free seen (sym c.if-has_no_room_for.ensures));
       stands = r.stands;
     }
@@ -61,10 +61,10 @@ pub returns-clause-steps : goal.returns-clause-steps
 returns-clause-steps g c = λ w r.
     let o = opened c.args.self.now _ w c.args.txn c.in-Some.entry.now (sym c.self.view_is) (sym c.in-Some.ensures) r in
     let seen = read_field _ w c.args.txn c.in-Some.entry.now c.args.name c.page-page.result c.args.field c.in-Some-object_seen.object c.index-object-field.result o (sym c.if-not-knows.ensures)
-    c.page-page.ensures.value c.in_default-check_shared.ensures.free (sym c.in-Some-object_seen.ensures.object) c.if-field-ge4.false in
+    c.page-page.ensures.value c.in_default-check_shared.ensures.free (sym c.in-Some-object_seen.ensures.object) c.if-field-ge-FIELDS.false in
     record {
       allowed = (
-        get_full _ w c.args.txn c.in-Some.entry.now c.args.name c.args.field c.page-page.result _ _ o (sym c.if-not-knows.ensures) c.if-field-ge4.false c.page-page.ensures.value
+        get_full _ w c.args.txn c.in-Some.entry.now c.args.name c.args.field c.page-page.result _ _ o (sym c.if-not-knows.ensures) c.if-field-ge-FIELDS.false c.page-page.ensures.value
             c.in_default-check_shared.ensures.free seen (sym c.if-has_no_room_for.ensures),
         ap (λ x. Ref x) seen,
       );
