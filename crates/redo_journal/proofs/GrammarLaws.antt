@@ -11,10 +11,7 @@ use Rattle.redo_journal.specs.declared.kind.Kind.{Kind}
 use Rattle.redo_journal.specs.declared.faults.AreaFault.{AreaFault}
 use Rattle.redo_journal.specs.declared.faults.AreaFault.TheVariants.{DiskFault, BadRecord, Memory}
 use Rattle.redo_journal.specs.Walk.{weights}
-use Rattle.redo_journal.proofs.WalkLaws.{IsLocal}
-
-abbrev ok : {A : Type 0} → A → Result A ℕ
-ok x = Ok x
+use Rattle.redo_journal.proofs.WalkLaws.{IsLocal, ok}
 
 pub unok : {A : Type 0} (x y : A) → ok x ≡ ok y → x ≡ y
 unok x y h = cc

@@ -8,23 +8,10 @@ use Rattle.page_image.specs.Fields.{page_at}
 use Rattle.redo_journal.specs.Homes.{home_start, home_of}
 use Rattle.redo_journal.specs.Replays.{later, last_image}
 use Rattle.redo_journal.specs.Sending.{AreHome, is_among}
+use Rattle.redo_journal.proofs.LastImages.{last-append}
 use Rattle.redo_journal.proofs.HomeBytes.{torn_home, home_written, differs_not, differs_then, differs_more, same_home}
 
 -- ---- the last image of a page
-
-later_assoc : (a b c : Option PageParts) → later (later a b) c ≡ later a (later b c)
-later_assoc (Some p) b c = refl
-later_assoc None b c = refl
-
-pub last-append : (xs ys : List PageParts) (page : ℕ) → last_image (xs ++ ys) page ≡ later (last_image ys page) (last_image xs page)
-last-append [] ys page = none_before (last_image ys page)
-  where
-    none_before : (o : Option PageParts) → o ≡ later o None
-    none_before (Some p) = refl
-    none_before None = refl
-last-append (p ∷ xs) ys page =
-    ap (λ (o : Option PageParts). later o (if p.number == page then Some p else None)) (last-append xs ys page)
-    ∙ later_assoc (last_image ys page) (last_image xs page) (if p.number == page then Some p else None)
 
 last-one : (p q : PageParts) (page : ℕ) → last_image (p ∷ []) page ≡ Some q → (p.number ≡ page) × (p ≡ q)
 last-one p q page e = of_test (p.number == page) refl e

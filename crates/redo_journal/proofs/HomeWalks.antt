@@ -21,10 +21,7 @@ use Rattle.redo_journal.proofs.GrammarLaws.{unok, bind_ok, guard_ok, sized, gram
 use Rattle.redo_journal.proofs.HomeBytes.{piece-piece, same_front}
 use Rattle.redo_journal.proofs.HomeRecords.{up_to_end}
 use Rattle.redo_journal.proofs.ScanSteps.{walk_drop}
-use Rattle.redo_journal.proofs.WalkLaws.{then_ok, taken-cons}
-
-abbrev ok : {A : Type 0} → A → Result A ℕ
-ok x = Ok x
+use Rattle.redo_journal.proofs.WalkLaws.{ok, then_ok, taken-cons}
 
 place_ok : {A : Type 0} (place : ℕ) (r : Result A ℕ) (x : A) → from_place place r ≡ Ok x → r ≡ Ok x
 place_ok place (Ok y) x e = e

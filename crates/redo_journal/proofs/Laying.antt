@@ -8,6 +8,7 @@ use Rattle.std.proofs.lemmas.Bool.{ne_eqb, eqb-true, cases_Bool}
 use Rattle.page_image.specs.Pages.{PageParts}
 use Rattle.redo_journal.specs.Record.{numbers_of}
 use Rattle.redo_journal.specs.Replays.{later, last_image, image_of, AreLatest, IsLaidOver}
+use Rattle.redo_journal.proofs.LastImages.{later-assoc, last-append}
 
 -- ---- ascending
 
@@ -100,18 +101,6 @@ laid_set (p ∷ ps) zero image page lt same below =
 laid_set (p ∷ ps) (suc at) image page lt same below = ap (λ (o : Option PageParts). cond (eqb p.number page) (Some p) o) (laid_set ps at image page (omega (arith, lt)) same below.1) ∙ passed p image page (image_of ps page) below.0
 
 -- ---- more and more
-
-later-assoc : (x y z : Option PageParts) → later (later x y) z ≡ later x (later y z)
-later-assoc (Some x) y z = refl
-later-assoc None y z = refl
-
-pub last-append : (xs ys : List PageParts) (page : ℕ) → last_image (xs ++ ys) page ≡ later (last_image ys page) (last_image xs page)
-last-append [] ys page = nothing (last_image ys page)
-  where
-    nothing : (o : Option PageParts) → o ≡ later o None
-    nothing (Some p) = refl
-    nothing None = refl
-last-append (x ∷ xs) ys page = ap (λ (o : Option PageParts). later o (only x page)) (last-append xs ys page) ∙ later-assoc (last_image ys page) (last_image xs page) (only x page)
 
 -- over nothing each page has the last of them
 pub laid_first : (xs b : List PageParts) → IsLaidOver xs [] b → (page : ℕ) → image_of b page ≡ last_image xs page

@@ -10,6 +10,7 @@ pub mod HomeRuns
 pub mod HomeWalks
 pub mod ImageReads
 pub mod ImageSteps
+pub mod LastImages
 pub mod Laying
 pub mod Moments
 pub mod ScanSteps

@@ -1,10 +1,8 @@
 -- How a run of device calls goes on.
 use Rattle.std.proofs.Common.{◌≡◌, inl, inr, ⊎_elim, ℕ, List, Option, None, Some, arith, subst, refl}
 use Rattle.std.specs.Prelude.{IfSome}
+pub use Rattle.disk_trait.proofs.NoteSteps.{torn_same}
 use Rattle.disk_trait.specs.Disk.{Elapses, LeavesOnly, Only, IsSynced, Torn, Follows, SameImages}
-
-pub torn_same : (at n : ℕ) (c : List ℕ) → Torn at n c c
-torn_same at n c = record { same_length = refl; before = refl; after = refl }
 
 -- a crash in a write, where a crash before it left one content alone
 pub torn_from : (at n : ℕ) (old new : List ℕ → Type 0) (c : List ℕ) → Only c old → Follows (Torn at n) old new → (f : List ℕ) → new f → Torn at n c f

@@ -7,6 +7,7 @@ use Rattle.object_graph.specs.Slots.{least, least_with}
 use Rattle.store_model.specs.Worlds.{World, Transaction, find_transaction, transaction, fresh_transaction}
 use Rattle.store_model.specs.Causes.{holder}
 use Rattle.store_model.specs.Steps.{with_transaction, without}
+use Rattle.store_model.proofs.Lists.{find_in, find_passes}
 use Rattle.object_graph.proofs.Members.{In, in_filter, filter_in, in_map, map_in}
 
 abbrev pub KeepsNumber : (Transaction → Transaction) → Type 0
@@ -32,13 +33,7 @@ find-changed n m change (t ∷ ts) kept =
 
 -- what is found passes the test
 pub found_in_list : {A : Type 0} (p : A → Bool) (xs : List A) (x : A) → find p xs ≡ Some x → In x xs × (p x ≡ true)
-found_in_list p [] x e = cc
-found_in_list p (y ∷ ys) x e = one p y ys x (found_in_list p ys x) (p y) refl e
-  where
-    one : {A : Type 0} (p : A → Bool) (y : A) (ys : List A) (x : A) → (find p ys ≡ Some x → In x ys × (p x ≡ true))
-        → (b : Bool) → p y ≡ b → cond b (Some y) (find p ys) ≡ Some x → In x (y ∷ ys) × (p x ≡ true)
-    one p y ys x h true q e = let s : y ≡ x = cc in (inl (sym s), subst (λ z. p z ≡ true) s q)
-    one p y ys x h false q e = let r = h e in (inr r.0, r.1)
+found_in_list p xs x e = (find_in p xs x e, find_passes p xs x e)
 
 pub find-filter : {A : Type 0} (p : A → Bool) (xs : List A) (y : A) (ys : List A) → filter p xs ≡ y ∷ ys → find p xs ≡ Some y
 find-filter p [] y ys e = cc

@@ -6,19 +6,12 @@ use Rattle.std.proofs.lemmas.List.Folds.{list_any-append, list_any_at}
 use Rattle.store_model.specs.Causes.{has_page}
 use Rattle.page_buffer.specs.Frames.{frame_at, with_frame, blank_frame}
 use Rattle.page_buffer.specs.declared.frame.Frame.{Frame}
+use Rattle.transactions.proofs.Entries.{or_false, or_true}
 
 -- the frames of these pages were changed, and no others
 pub record AreChanged (change : Frame → Frame) (old new : List Frame) (pages : List ℕ) : Type 0 where
   pub count : length new ≡ length old
   pub frames : (page : ℕ) → frame_at new page ≡ cond (has_page pages page) (change (frame_at old page)) (frame_at old page)
-
-or_false : (a : Bool) → (a || false) ≡ a
-or_false true = refl
-or_false false = refl
-
-or_true : (a : Bool) → (a || true) ≡ true
-or_true true = refl
-or_true false = refl
 
 pub page_at : (pages : List ℕ) (i : ℕ) → i < length pages → has_page pages (get_or pages i 0) ≡ true
 page_at pages i lt = list_any_at (λ p. p == get_or pages i 0) pages i 0 lt (eq-eqb (get_or pages i 0) (get_or pages i 0) refl)
