@@ -5,9 +5,8 @@ use Rattle.disk_trait.specs.Disk.{written, Torn}
 use Rattle.disk_trait.specs.NoteLaws.{torn_written}
 use Rattle.page_image.specs.Pages.{PageParts}
 use Rattle.page_image.specs.Fields.{page_at}
-use Rattle.redo_journal.specs.Homes.{home_start, home_of}
-use Rattle.redo_journal.specs.Replays.{later, last_image}
-use Rattle.redo_journal.specs.Sending.{AreHome, is_among}
+use Rattle.redo_journal.specs.Homes.{home_start, home_of, AreHome}
+use Rattle.redo_journal.specs.Replays.{later, last_image, is_among}
 use Rattle.redo_journal.proofs.LastImages.{last-append}
 use Rattle.redo_journal.proofs.HomeBytes.{torn_home, home_written, differs_not, differs_then, differs_more, same_home}
 

@@ -5,10 +5,10 @@ use Rattle.std.proofs.lemmas.Grind.{flat_map-append}
 use Rattle.std.specs.Prelude.{IsSomeAnd}
 use Rattle.disk_trait.specs.Disk.{LeavesOnly}
 use Rattle.page_image.specs.Pages.{PageParts}
-use Rattle.redo_journal.specs.Homes.{DiffersInHomes}
+use Rattle.redo_journal.specs.Homes.{DiffersInHomes, AreHome}
 use Rattle.redo_journal.specs.Record.{RecordParts, size_of}
-use Rattle.redo_journal.specs.Replays.{images_in, is_named}
-use Rattle.redo_journal.specs.Sending.{AreImagesAt, AreRecordsAt, AreHome, ChangesHomes, is_among, number_at}
+use Rattle.redo_journal.specs.Replays.{images_in, is_named, is_among}
+use Rattle.redo_journal.specs.Sending.{AreImagesAt, AreRecordsAt, ChangesHomes, number_at}
 use Rattle.redo_journal.proofs.HomeImages.{none_home, home_then, among_left, among_right}
 use Rattle.redo_journal.proofs.HomeMoments.{some_and, and_some, some_more, looked, changes_more, changes_then}
 use Rattle.redo_journal.proofs.HomeRuns.{number_still, image_still}

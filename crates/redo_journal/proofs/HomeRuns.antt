@@ -5,8 +5,9 @@ use Rattle.std.specs.Prelude.{IsSomeAnd}
 use Rattle.std.specs.Int.{w32, from_be_bytes}
 use Rattle.page_image.specs.Pages.{PageParts}
 use Rattle.page_image.specs.Fields.{page_at}
-use Rattle.redo_journal.specs.Homes.{DiffersInHomes}
-use Rattle.redo_journal.specs.Sending.{IsImageAt, AreImagesAt, AreHome, ChangesHomes, is_among, number_at}
+use Rattle.redo_journal.specs.Homes.{DiffersInHomes, AreHome}
+use Rattle.redo_journal.specs.Replays.{is_among}
+use Rattle.redo_journal.specs.Sending.{IsImageAt, AreImagesAt, ChangesHomes, number_at}
 use Rattle.redo_journal.proofs.HomeBytes.{same_front}
 use Rattle.redo_journal.proofs.HomeImages.{none_home, home_then, among_left, among_right}
 use Rattle.redo_journal.proofs.HomeMoments.{some_and, and_some, some_more, changes_more, changes_then}

@@ -4,7 +4,7 @@ use Rattle.disk_trait.specs.Disk.{piece}
 use Rattle.page_image.specs.Pages.{PageParts}
 use Rattle.page_image.specs.Fields.{page_at}
 use Rattle.redo_journal.specs.Record.{RecordParts}
-use Rattle.redo_journal.specs.Replays.{images_in, last_image, is_named}
+use Rattle.redo_journal.specs.Replays.{images_in, last_image, is_among}
 
 -- where the home of a page begins in the store file
 abbrev pub home_start : ℕ → ℕ
@@ -26,7 +26,11 @@ pub record DiffersInHomes (named : ℕ → Bool) (old new : List ℕ) : Type 0 w
   pub same_length : length new ≡ length old
   pub elsewhere : (at : ℕ) → ((page : ℕ) → named page ≡ true → IsInHome page at → ⊥) → slice_index new at ≡ slice_index old at
 
+-- each page among the images has the last of them at home, and all else is as before
+pub record AreHome (images : List PageParts) (old new : List ℕ) : Type 0 where
+  pub elsewhere : DiffersInHomes (is_among images) old new
+  pub homes : (page : ℕ) (p : PageParts) → last_image images page ≡ Some p → page_at (home_of page new) ≡ Ok p
+
 -- each home that a record names holds its last image, and all else is as before
-pub record AreSentHome (records : List RecordParts) (old new : List ℕ) : Type 0 where
-  pub elsewhere : DiffersInHomes (is_named records) old new
-  pub homes : (page : ℕ) (p : PageParts) → last_image (images_in records) page ≡ Some p → page_at (home_of page new) ≡ Ok p
+abbrev pub AreSentHome : List RecordParts → List ℕ → List ℕ → Type 0
+AreSentHome records old new = AreHome (images_in records) old new

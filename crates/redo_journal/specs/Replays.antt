@@ -21,9 +21,13 @@ abbrev pub last_image : List PageParts → ℕ → Option PageParts
 last_image [] page = None
 last_image (p ∷ ps) page = later (last_image ps page) (if p.number == page then Some p else None)
 
+-- one of the images is of this page
+abbrev pub is_among : List PageParts → ℕ → Bool
+is_among images page = is_some (last_image images page)
+
 -- a record names the page
 abbrev pub is_named : List RecordParts → ℕ → Bool
-is_named records page = is_some (last_image (images_in records) page)
+is_named records page = is_among (images_in records) page
 
 -- the image of a page among images of which each page has at most one
 abbrev pub image_of : List PageParts → ℕ → Option PageParts

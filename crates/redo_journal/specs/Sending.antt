@@ -1,14 +1,13 @@
 -- Images as they stand in an area, and what a file and its crash images become as they are sent home.
-use Rattle.std.specs.Prelude.{◌≡◌, ⊤, ℕ, ◌+◌, ◌-◌, ◌<◌, Bool, List, [], ◌∷◌, ◌++◌, is_some, length, Option, Some, IsSomeAnd, Ok}
+use Rattle.std.specs.Prelude.{◌≡◌, ⊤, ℕ, ◌+◌, ◌-◌, ◌<◌, Bool, List, [], ◌∷◌, ◌++◌, length, Option, Some, IsSomeAnd, Ok}
 use Rattle.std.specs.Int.{w32, w64, from_be_bytes, to_be_bytes}
 use Rattle.disk_trait.specs.Disk.{piece, LeavesOnly}
 use Rattle.page_image.specs.Pages.{PageParts}
 use Rattle.page_image.specs.Fields.{page_at}
 use Rattle.redo_journal.specs.Area.{first_gate}
-use Rattle.redo_journal.specs.Homes.{DiffersInHomes, home_of}
+use Rattle.redo_journal.specs.Homes.{DiffersInHomes}
 use Rattle.redo_journal.specs.Journals.{JournalParts}
 use Rattle.redo_journal.specs.Record.{RecordParts, image_size, size_of}
-use Rattle.redo_journal.specs.Replays.{last_image}
 
 -- ---- what stands in an area
 
@@ -38,15 +37,6 @@ AreRecordsAt pages end at (r ∷ rs) file =
     (number_at (at + 2) file ≡ length r.images) × AreImagesAt pages (at + 6) r.images file × AreRecordsAt pages end (at + size_of r) rs file
 
 -- ---- what is sent
-
--- one of the images is of this page
-abbrev pub is_among : List PageParts → ℕ → Bool
-is_among images page = is_some (last_image images page)
-
--- each page among the images has the last of them at home, and all else is as before
-pub record AreHome (images : List PageParts) (old new : List ℕ) : Type 0 where
-  pub elsewhere : DiffersInHomes (is_among images) old new
-  pub homes : (page : ℕ) (p : PageParts) → last_image images page ≡ Some p → page_at (home_of page new) ≡ Ok p
 
 -- what a step makes of crash images
 abbrev pub After : (List ℕ → List ℕ → Type 0) → (List ℕ → Type 0) → List ℕ → Type 0

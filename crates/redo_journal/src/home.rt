@@ -3,11 +3,11 @@ ghost use Rattle.std.specs.Prelude.{◌≡◌, ◌≤◌, ◌<◌, ◌+◌, ◌*
 ghost use Rattle.disk_trait.specs.Causes.{HasCause, SameTold};
 ghost use Rattle.disk_trait.specs.Disk.{piece, written, Torn, Only, IsSynced, TornContent, LeavesOnly};
 ghost use Rattle.page_image.specs.Pages.{PageParts};
-ghost use Rattle.redo_journal.specs.Homes.{store_size, DiffersInHomes, AreSentHome};
+ghost use Rattle.redo_journal.specs.Homes.{store_size, DiffersInHomes, AreHome, AreSentHome};
 ghost use Rattle.redo_journal.specs.Journals.{HoldsFor, IsOn};
 ghost use Rattle.redo_journal.specs.Record.{RecordParts};
-ghost use Rattle.redo_journal.specs.Replays.{is_named, images_in};
-ghost use Rattle.redo_journal.specs.Sending.{number_at, IsImageAt, AreImagesAt, AreRecordsAt, is_among, AreHome, After, ChangesHomes};
+ghost use Rattle.redo_journal.specs.Replays.{is_among, is_named, images_in};
+ghost use Rattle.redo_journal.specs.Sending.{number_at, IsImageAt, AreImagesAt, AreRecordsAt, After, ChangesHomes};
 
 use crate::area::start_of;
 use crate::fields::{FRAME_SIZE, IMAGE_SIZE, PAGE_SIZE};

@@ -1,8 +1,9 @@
 use Rattle.std.proofs.Common.{◌≡◌, ◌≤◌, ◌+◌, ◌*◌, [], ◌∷◌, Some, length, ◌∙◌, ap, subst, arith}
 use Rattle.std.specs.Prelude.{option_map}
 use Rattle.disk_trait.specs.Disk.{piece, written, TornContent, LeavesOnly, Torn}
-use Rattle.redo_journal.specs.Homes.{home_start}
-use Rattle.redo_journal.specs.Sending.{number_at, image_behind, is_among, AreHome, After}
+use Rattle.redo_journal.specs.Homes.{home_start, AreHome}
+use Rattle.redo_journal.specs.Replays.{is_among}
+use Rattle.redo_journal.specs.Sending.{number_at, image_behind, After}
 use Rattle.redo_journal.proofs.FileLaws.{length-piece}
 use Rattle.redo_journal.proofs.HomeImages.{among_one, one_home}
 use Rattle.redo_journal.proofs.HomeMoments.{in_some, and_some, ok_more, looked, wrote, changes_then}

@@ -1,5 +1,5 @@
 use Rattle.std.proofs.Common.{◌≤◌, ◌<◌, ◌+◌, ◌-◌, ◌*◌, refl, ◌∙◌, arith}
-use Rattle.redo_journal.specs.Sending.{is_among}
+use Rattle.redo_journal.specs.Replays.{is_among}
 use Rattle.redo_journal.proofs.HomeMoments.{unchanged}
 use Rattle.redo_journal.proofs.HomeRuns.{images_start, images_next, images_change}
 use Rattle.redo_journal.proofs.home.send_images.Goals as goal

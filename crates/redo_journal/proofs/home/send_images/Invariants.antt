@@ -1,7 +1,8 @@
 use Rattle.std.proofs.Common.{◌≡◌, ◌≤◌, ◌+◌, ◌-◌, ◌*◌, ℕ, List, Some, length}
 use Rattle.disk_trait.specs.Causes.{SameTold}
 use Rattle.page_image.specs.Pages.{PageParts}
-use Rattle.redo_journal.specs.Sending.{AreImagesAt, ChangesHomes, is_among}
+use Rattle.redo_journal.specs.Replays.{is_among}
+use Rattle.redo_journal.specs.Sending.{AreImagesAt, ChangesHomes}
 use Rattle.redo_journal.proofs.HomeRuns.{ImagesLeft}
 use Rattle.redo_journal.proofs.home.send_images.Given as goal
 

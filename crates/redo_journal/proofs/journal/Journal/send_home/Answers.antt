@@ -1,10 +1,10 @@
 use Rattle.std.proofs.Common.{◌≡◌, ◌+◌, ◌*◌, ℕ, List, Some, ◌∙◌, ap, arith}
 use Rattle.std.specs.Prelude.{IsSomeAnd}
-use Rattle.redo_journal.specs.Homes.{DiffersInHomes, AreSentHome}
+use Rattle.redo_journal.specs.Homes.{DiffersInHomes}
 use Rattle.redo_journal.specs.Journals.{HoldsFor}
 use Rattle.redo_journal.specs.Record.{RecordParts}
-use Rattle.redo_journal.specs.Replays.{is_named, images_in}
-use Rattle.redo_journal.specs.Sending.{AreHome, AreRecordsAt}
+use Rattle.redo_journal.specs.Replays.{is_named}
+use Rattle.redo_journal.specs.Sending.{AreRecordsAt}
 use Rattle.redo_journal.proofs.HomeMoments.{ok_more, some_more, from_only}
 use Rattle.redo_journal.proofs.HomeWalks.{journal_records, holds_still, own_still}
 use Rattle.redo_journal.proofs.journal.Journal.send_home.Goals as goal
@@ -20,10 +20,7 @@ stand g c file records holds =
 
 pub returns-clause-sent : goal.returns-clause-sent
 returns-clause-sent g c =
-    ok_more c.send_and_sync.result _ _ (λ sent file records told holds.
-    some_more (g.D.Disk.content c.send_and_sync.new.disk) (AreHome (images_in records) file) (AreSentHome records file) (λ f home. record { elsewhere = home.elsewhere; homes = home.homes })
-    (sent file records told (stand g c file records holds)))
-    c.send_and_sync.ensures.sent
+    ok_more c.send_and_sync.result _ _ (λ sent file records told holds. sent file records told (stand g c file records holds)) c.send_and_sync.ensures.sent
 
 pub returns-clause-elsewhere : goal.returns-clause-elsewhere
 returns-clause-elsewhere g c = λ file records told holds. (c.send_and_sync.ensures.homes file records told (stand g c file records holds)).told file told
