@@ -1,6 +1,6 @@
 //! Reading the fields of a record.
-ghost use Rattle.std.specs.Prelude.{◌≡◌, ◌≤◌, ◌<◌, ◌+◌, ◌*◌, ◌^◌, Ok, Err, length, take, drop, slice_index, IfOk};
-ghost use Rattle.std.specs.Int.{w32, w64, from_be_bytes};
+ghost use Rattle.std.specs.Prelude.{◌≡◌, ◌≤◌, ◌<◌, ◌+◌, ◌*◌, ◌^◌, Ok, Err, length, take, drop, IfOk};
+ghost use Rattle.std.specs.Int.{w32, from_be_bytes};
 ghost use Rattle.page_image.specs.Fields.{page_at};
 ghost use Rattle.redo_journal.specs.Area.{most_commits, base_in};
 ghost use Rattle.redo_journal.specs.Judging.{Gives};

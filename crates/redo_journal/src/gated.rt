@@ -3,9 +3,8 @@ ghost use Rattle.std.specs.Prelude.{◌≡◌, ◌≤◌, ◌<◌, ◌+◌, ◌^
 ghost use Rattle.std.specs.List.{AllByRecursion};
 ghost use Rattle.disk_trait.specs.Causes.{HasCause, SameTold};
 ghost use Rattle.disk_trait.specs.Disk.{Only, IsSynced, LeavesOnly};
-ghost use Rattle.page_image.specs.Pages.{PageParts};
 ghost use Rattle.redo_journal.specs.Gated.{TornBehind, behind_open};
-ghost use Rattle.redo_journal.specs.Record.{ReadsBack, size_of, spelled_with_gate};
+ghost use Rattle.redo_journal.specs.Record.{ReadsBack, spelled_with_gate};
 
 use crate::fields::{FRAME_SIZE, IMAGE_SIZE};
 use crate::kind::Kind;

@@ -1,9 +1,8 @@
 //! The journal of a store.
-ghost use Rattle.std.specs.Prelude.{◌≡◌, ◌≤◌, ◌<◌, ◌+◌, ◌↔◌, ◌++◌, ◌∷◌, [], List, ℕ, Some, None, IfSome, IsSomeAnd, IfOk, OnOk, OnErr, IsErrOf, Err, length, vec_capacity};
+ghost use Rattle.std.specs.Prelude.{◌≡◌, ◌≤◌, ◌<◌, ◌+◌, ◌↔◌, List, ℕ, Some, None, IfSome, IsSomeAnd, IfOk, OnOk, OnErr, IsErrOf, Err, length, vec_capacity};
 ghost use Rattle.disk_trait.specs.Causes.{Rose, SameTold};
 ghost use Rattle.disk_trait.specs.Disk.{Only, SameImages, IsSynced, LeavesOnly};
-ghost use Rattle.page_image.specs.Pages.{PageParts};
-ghost use Rattle.redo_journal.specs.Area.{area_size, area_start, area_of, read_area, most_commits};
+ghost use Rattle.redo_journal.specs.Area.{area_start, area_of, read_area, most_commits};
 ghost use Rattle.redo_journal.specs.Homes.{store_size};
 ghost use Rattle.redo_journal.specs.Journals.{JournalParts, HoldsFor, IsOn, need_of, left_of, begun, with_page, appended, IsAppendedOrNot, IsAppended};
 ghost use Rattle.redo_journal.specs.Record.{RecordParts, IsRecordOf, grammar, with_image};
@@ -44,7 +43,7 @@ pub struct Journal {
 }
 
 impl Model for Journal {
-    ghost use Rattle.std.specs.Prelude.{◌≡◌, ◌≤◌, length, vec_len, vec_capacity};
+    ghost use Rattle.std.specs.Prelude.{◌≡◌, ◌≤◌, length, vec_capacity};
     ghost use Rattle.redo_journal.specs.Journals.{JournalParts, IsJournal, staged_of};
 
     ghost Value = { JournalParts };

@@ -1,6 +1,5 @@
 //! The last image of each page that an area's records name.
-ghost use Rattle.std.specs.Prelude.{◌≡◌, ◌≤◌, ◌<◌, ℕ, [], ◌∷◌, length, slice_index, OnOk, OnErr, IsErrOf, IfErr};
-ghost use Rattle.page_image.specs.Pages.{PageParts};
+ghost use Rattle.std.specs.Prelude.{◌≤◌, ◌<◌, ℕ, [], ◌∷◌, length, slice_index, OnOk};
 ghost use Rattle.redo_journal.specs.Record.{numbers_of};
 ghost use Rattle.redo_journal.specs.Replays.{AreLatest, IsLaidOver};
 

@@ -1,5 +1,5 @@
 //! Reading an area's records.
-ghost use Rattle.std.specs.Prelude.{◌≡◌, ◌≤◌, ◌<◌, ◌+◌, ◌*◌, ◌^◌, ℕ, List, Ok, length, IfOk, MatchResult, []};
+ghost use Rattle.std.specs.Prelude.{◌≡◌, ◌≤◌, ◌<◌, ◌+◌, ◌*◌, ◌^◌, List, Ok, length, IfOk, MatchResult, []};
 ghost use Rattle.page_image.specs.Pages.{PageParts};
 ghost use Rattle.redo_journal.specs.Area.{read_area, most_commits, area_size, first_gate};
 ghost use Rattle.redo_journal.specs.Judging.{IsFaultIn};

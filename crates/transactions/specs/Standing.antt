@@ -10,8 +10,8 @@ use Rattle.store_model.specs.Lawful.{HaveFields, IsLawful}
 use Rattle.page_image.specs.Pages.{PageParts}
 use Rattle.page_buffer.specs.Frames.{clean_frame, frame_at}
 use Rattle.page_buffer.specs.declared.frame.Frame.{Frame}
-use Rattle.page_locks.specs.Holding.{LockTable, numbers, shares, excludes}
-use Rattle.transactions.specs.Tables.{most_open_here, OpenParts, Entries, entry_of, HaveSamePages, HaveSameNames}
+use Rattle.page_locks.specs.Holding.{LockTable, most_admitted, numbers, shares, excludes}
+use Rattle.transactions.specs.Tables.{OpenParts, Entries, entry_of, HaveSamePages, HaveSameNames}
 
 -- the images of pages, as a world shows them
 abbrev pub images_of : List PageParts → List (List SlotParts)
@@ -78,7 +78,7 @@ pub record AreFramesOf (w : World) (frames : List Frame) : Type 0 where
 
 -- the transactions stand for the world
 pub record Stands (s : TransactionsParts) (w : World) : Type 0 where
-  pub limit : w.open_limit ≡ most_open_here
+  pub limit : w.open_limit ≡ most_admitted
   pub fields : HaveFields (fields_of w) w.graph
   pub table : IsTable w s.table
   pub locks : AreLocks w s.locks

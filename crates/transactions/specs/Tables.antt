@@ -8,10 +8,6 @@ use Rattle.store_model.specs.Limits.{most_written, most_known}
 use Rattle.store_model.specs.Causes.{has_page}
 use Rattle.store_model.specs.Steps.{with_page, with_target}
 
--- how many transactions can be open
-abbrev pub most_open_here : ℕ
-most_open_here = 64
-
 -- what is kept of an open transaction: the names that it knows, and the pages that it wrote, ascending
 pub record OpenParts : Type 0 where
   pub known : List NameParts

@@ -2,6 +2,7 @@
 ghost use Rattle.std.specs.Prelude.{◌≡◌, ◌<◌, ◌++◌, ◌∷◌, [], false, IfOk, length};
 ghost use Rattle.object_graph.specs.Names.{root_name};
 ghost use Rattle.object_graph.specs.Graphs.{has_name};
+ghost use Rattle.store_model.specs.Limits.{most_known};
 
 use indexmap::IndexSet;
 use object_graph::{Memory, Name};
@@ -24,13 +25,14 @@ impl Model for KnownNames {
     ghost use Rattle.indexmap.specs.IndexSet.{spare};
     ghost use Rattle.object_graph.specs.NameParts.{NameParts};
     ghost use Rattle.page_image.specs.Fields.{name_of};
+    ghost use Rattle.store_model.specs.Limits.{most_known};
     ghost use Rattle.transactions.specs.KnownNumbers.{IsOfName};
 
     ghost Value = { List NameParts };
 
     ghost view = { λ k. map name_of k.numbers.keys };
 
-    ghost invariant = { λ k. AllByRecursion IsOfName k.numbers.keys × (4096 ≤ length k.numbers.keys + spare k.numbers) };
+    ghost invariant = { λ k. AllByRecursion IsOfName k.numbers.keys × (most_known ≤ length k.numbers.keys + spare k.numbers) };
 }
 
 impl KnownNames {
@@ -57,7 +59,7 @@ impl KnownNames {
 
     /// Adds a name.
     pub fn add(&mut self, name: Name)
-        requires room { length self.old < 4096 }
+        requires room { length self.old < most_known }
         requires absent { has_name self.old name ≡ false }
         ensures { self.new ≡ self.old ++ name ∷ [] }
     {

@@ -1,6 +1,7 @@
 //! An open transaction.
 ghost use Rattle.std.specs.Prelude.{◌≡◌, ◌≤◌, ◌<◌, true, false, IfOk, length, nat_le};
 ghost use Rattle.object_graph.specs.Graphs.{has_name};
+ghost use Rattle.store_model.specs.Limits.{most_known};
 ghost use Rattle.store_model.specs.Causes.{has_page};
 ghost use Rattle.transactions.specs.Tables.{OpenParts, IsAscending, IsPlaceFor, fresh_entry, is_wide, knows_target, is_full_for, NotesPage, NotesTarget};
 
@@ -21,13 +22,14 @@ pub struct Open {
 
 impl Model for Open {
     ghost use Rattle.std.specs.Prelude.{◌≤◌, vec_capacity};
+    ghost use Rattle.store_model.specs.Limits.{most_written};
     ghost use Rattle.transactions.specs.Tables.{OpenParts, IsAscending};
 
     ghost Value = { OpenParts };
 
     ghost view = { λ o. record { known = o.known; written = o.written.items } };
 
-    ghost invariant = { λ o. IsAscending o.written.items × (64 ≤ vec_capacity o.written) };
+    ghost invariant = { λ o. IsAscending o.written.items × (most_written ≤ vec_capacity o.written) };
 }
 
 impl Open {
@@ -59,7 +61,7 @@ impl Open {
 
     /// As many names are known as can be.
     pub fn knows_most(&self) -> bool
-        ensures { result ≡ nat_le 4096 (length self.now.known) }
+        ensures { result ≡ nat_le most_known (length self.now.known) }
     {
         self.known.count() >= MOST_KNOWN
     }

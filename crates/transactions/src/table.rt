@@ -1,5 +1,5 @@
 //! The table of open transactions.
-ghost use Rattle.std.specs.Prelude.{◌≡◌, ℕ, ◌<◌, ◌++◌, ◌∷◌, [], true, false, not, filter, nat_eq, is_some, None, IfOk, OnOk, OnErr, IfSome, length, option_copied};
+ghost use Rattle.std.specs.Prelude.{◌≡◌, ◌<◌, ◌++◌, ◌∷◌, [], false, not, filter, nat_eq, is_some, None, IfOk, OnOk, OnErr, length, option_copied};
 ghost use Rattle.transactions.specs.Tables.{Entries, OpenParts, entry_of, fresh_entry, is_wide, is_full_for, ChangesEntry, NotesPage, NotesTarget};
 
 use crate::open::Open;

@@ -6,8 +6,10 @@ ghost use Rattle.store_model.specs.Worlds.{World};
 ghost use Rattle.std.specs.List.{AllByRecursion};
 ghost use Rattle.store_model.specs.FromImages.{world_of, has_root, IsWhole};
 ghost use Rattle.store_model.specs.Steps.{swept};
+ghost use Rattle.page_image.specs.Sizes.{page_limit};
 ghost use Rattle.page_image.specs.Pages.{IsPage, slot_at};
 ghost use Rattle.page_buffer.specs.Frames.{frame_at, with_frame, freed_frame};
+ghost use Rattle.page_locks.specs.Holding.{most_admitted};
 ghost use Rattle.transactions.specs.Tables.{entry_of, written_at, IsAscending};
 ghost use Rattle.transactions.specs.Standing.{images_of, AreNumbered, IsReady, IsReadyForSome, Stands};
 ghost use Rattle.transactions.specs.Calls.{AreOutOfReach, StepsWell, done_reply};
@@ -56,11 +58,11 @@ impl Transactions {
     /// The store that has just been opened from these pages, page 0 first: what they show is
     /// committed, and no transaction is open.
     pub fn new(alloc: Global, pages: Vec<Page>) -> Result<Transactions, Memory>
-        requires few { length pages.items ≤ 4096 }
+        requires few { length pages.items ≤ page_limit }
         requires numbered { AreNumbered pages.items }
         requires root { IsTrue (has_root (images_of pages.items)) }
         requires whole { IsWhole (images_of pages.items) }
-        ensures ready { IfOk result (λ s. (commits : ℕ) → IsReady s (world_of 64 commits (images_of pages.items))) }
+        ensures ready { IfOk result (λ s. (commits : ℕ) → IsReady s (world_of most_admitted commits (images_of pages.items))) }
     {
         are_pages(&pages);
         let table = Table::new(alloc)?;
