@@ -4,7 +4,7 @@ use Rattle.std.specs.List.{list_any, list_all}
 use Rattle.std.proofs.lemmas.Bool.{and_parts, and_from, or_cases, eqb-true, eq-eqb, not-true}
 use Rattle.object_graph.specs.NameParts.{NameParts}
 use Rattle.object_graph.specs.Names.{name_eq}
-use Rattle.object_graph.specs.declared.names.Object.{Object}
+use Rattle.object_graph.specs.ObjectParts.{ObjectParts}
 use Rattle.object_graph.specs.Graphs.{has_object, has_name, is_to, refers, IsPath, IsReachedFrom}
 use Rattle.object_graph.proofs.Members.{In, any_in, in_any, all_in}
 
@@ -36,12 +36,12 @@ pub in_has_name : (names : List NameParts) (n : NameParts) → In n names → ha
 in_has_name names n m = in_any (λ k. name_eq k n) names n m (name_eq_refl n)
 
 -- an object of the graph with this name
-pub has_object_in : (graph : List Object) (n : NameParts) → has_object graph n ≡ true → (o : Object) × In o graph × (o.name ≡ n)
+pub has_object_in : (graph : List ObjectParts) (n : NameParts) → has_object graph n ≡ true → (o : ObjectParts) × In o graph × (o.name ≡ n)
 has_object_in graph n h =
     let r = any_in (λ o. name_eq o.name n) graph h in
     (r.0, r.1, name_eq_same r.0.name n r.2)
 
-pub in_has_object : (graph : List Object) (o : Object) → In o graph → has_object graph o.name ≡ true
+pub in_has_object : (graph : List ObjectParts) (o : ObjectParts) → In o graph → has_object graph o.name ≡ true
 in_has_object graph o m = in_any (λ p. name_eq p.name o.name) graph o m (name_eq_refl o.name)
 
 pub is_to_same : (n : NameParts) (r : Option NameParts) → is_to n r ≡ true → r ≡ Some n
@@ -49,37 +49,37 @@ is_to_same n None h = cc
 is_to_same n (Some m) h = ap (λ k. Some k) (name_eq_same m n h)
 
 -- a path is one step longer
-pub path_more : (graph : List Object) (first : NameParts) (rest : List NameParts) (last target : NameParts)
+pub path_more : (graph : List ObjectParts) (first : NameParts) (rest : List NameParts) (last target : NameParts)
     → IsPath graph first rest last → refers graph last target ≡ true → has_object graph target ≡ true
     → IsPath graph first (rest ++ target ∷ []) target
 path_more graph first [] last target p r t =
     (subst (λ n. refers graph n target ≡ true) (sym p.0) r, p.1, (refl, t))
 path_more graph first (n ∷ ns) last target p r t = (p.0, p.1, path_more graph n ns last target p.2 r t)
 
-pub reached_more : (graph : List Object) (starts : List NameParts) (last target : NameParts)
+pub reached_more : (graph : List ObjectParts) (starts : List NameParts) (last target : NameParts)
     → IsReachedFrom graph starts last → refers graph last target ≡ true → has_object graph target ≡ true
     → IsReachedFrom graph starts target
 reached_more graph starts last target h r t =
     (h.0, h.1, (h.2.0 ++ target ∷ [], path_more graph h.0 h.2.0 last target h.2.1 r t))
 
 -- the target of a reference is in the set, or is no object of the graph
-abbrev pub is_kept_target : List Object → List NameParts → Option NameParts → Bool
+abbrev pub is_kept_target : List ObjectParts → List NameParts → Option NameParts → Bool
 is_kept_target graph set None = true
 is_kept_target graph set (Some target) = has_name set target || not (has_object graph target)
 
-abbrev pub is_kept_object : List Object → List NameParts → Object → Bool
+abbrev pub is_kept_object : List ObjectParts → List NameParts → ObjectParts → Bool
 is_kept_object graph set o = not (has_name set o.name) || list_all (is_kept_target graph set) o.refs
 
 -- no reference leads out of the set
-abbrev pub is_closed : List Object → List NameParts → Bool
+abbrev pub is_closed : List ObjectParts → List NameParts → Bool
 is_closed graph set = list_all (is_kept_object graph set) graph
 
-pub closed_step : (graph : List Object) (set : List NameParts) (first target : NameParts)
+pub closed_step : (graph : List ObjectParts) (set : List NameParts) (first target : NameParts)
     → is_closed graph set ≡ true → has_name set first ≡ true → refers graph first target ≡ true → has_object graph target ≡ true
     → has_name set target ≡ true
 closed_step graph set first target closed s r t =
     let found = any_in (λ o. name_eq o.name first && list_any (is_to target) o.refs) graph r in
-    let o : Object = found.0 in
+    let o : ObjectParts = found.0 in
     let both = and_parts (name_eq o.name first) (list_any (is_to target) o.refs) found.2 in
     let same = name_eq_same o.name first both.0 in
     let kept = all_in (is_kept_object graph set) graph o closed found.1 in
@@ -97,13 +97,13 @@ closed_step graph set first target closed s r t =
           ]
     ]
 
-pub path_first : (graph : List Object) (first : NameParts) (rest : List NameParts) (last : NameParts)
+pub path_first : (graph : List ObjectParts) (first : NameParts) (rest : List NameParts) (last : NameParts)
     → IsPath graph first rest last → has_object graph first ≡ true
 path_first graph first [] last p = p.1
 path_first graph first (n ∷ ns) last p = p.1
 
 -- a path that starts in a closed set ends in it
-pub closed_path : (graph : List Object) (set : List NameParts) (first : NameParts) (rest : List NameParts) (last : NameParts)
+pub closed_path : (graph : List ObjectParts) (set : List NameParts) (first : NameParts) (rest : List NameParts) (last : NameParts)
     → is_closed graph set ≡ true → has_name set first ≡ true → IsPath graph first rest last → has_name set last ≡ true
 closed_path graph set first [] last closed s p = subst (λ n. has_name set n ≡ true) p.0 s
 closed_path graph set first (n ∷ ns) last closed s p =

@@ -12,7 +12,7 @@ use Rattle.object_graph.specs.NameParts.{NameParts}
 use Rattle.object_graph.specs.Names.{name_eq, number_of, root_name, IsName}
 use Rattle.object_graph.specs.Graphs.{has_object, has_name, has_same_name, is_to, refers, HasEachNameOnce, IsPath, IsReachedFrom}
 use Rattle.object_graph.specs.Walks.{IsTaken, AreReached}
-use Rattle.object_graph.specs.declared.names.Object.{Object}
+use Rattle.object_graph.specs.ObjectParts.{ObjectParts}
 use Rattle.object_graph.proofs.Distinct.{same_name_flips, name_eq_flips}
 use Rattle.object_graph.proofs.Members.{In, any_in, in_any, or_left, or_right}
 use Rattle.object_graph.proofs.Paths.{name_of, name_eq_same, name_eq_refl, path_first, reached_more}
@@ -31,48 +31,48 @@ or_not_right : (a b : Bool) → (a || b) ≡ true → b ≡ false → a ≡ true
 or_not_right true b h n = refl
 or_not_right false b h n = cc
 
-has_object-append : (xs ys : List Object) (n : NameParts) → has_object (xs ++ ys) n ≡ (has_object xs n || has_object ys n)
+has_object-append : (xs ys : List ObjectParts) (n : NameParts) → has_object (xs ++ ys) n ≡ (has_object xs n || has_object ys n)
 has_object-append xs ys n = list_any-append (λ o. name_eq o.name n) xs ys
 
-has_object-same : (xs ys : List Object) → IsPermutation xs ys → (n : NameParts) → has_object xs n ≡ has_object ys n
+has_object-same : (xs ys : List ObjectParts) → IsPermutation xs ys → (n : NameParts) → has_object xs n ≡ has_object ys n
 has_object-same xs ys p n = list_any-IsPermutation (λ o. name_eq o.name n) xs ys p
 
-in_left : (xs ys : List Object) (n : NameParts) → has_object xs n ≡ true → has_object (xs ++ ys) n ≡ true
+in_left : (xs ys : List ObjectParts) (n : NameParts) → has_object xs n ≡ true → has_object (xs ++ ys) n ≡ true
 in_left xs ys n h = has_object-append xs ys n ∙ or_left (has_object xs n) (has_object ys n) h
 
-in_right : (xs ys : List Object) (n : NameParts) → has_object ys n ≡ true → has_object (xs ++ ys) n ≡ true
+in_right : (xs ys : List ObjectParts) (n : NameParts) → has_object ys n ≡ true → has_object (xs ++ ys) n ≡ true
 in_right xs ys n h = has_object-append xs ys n ∙ or_right (has_object xs n) (has_object ys n) h
 
-in_either : (xs ys : List Object) (n : NameParts) → has_object (xs ++ ys) n ≡ true → (has_object xs n ≡ true) ⊎ (has_object ys n ≡ true)
+in_either : (xs ys : List ObjectParts) (n : NameParts) → has_object (xs ++ ys) n ≡ true → (has_object xs n ≡ true) ⊎ (has_object ys n ≡ true)
 in_either xs ys n h = or_cases (has_object xs n) (has_object ys n) (sym (has_object-append xs ys n) ∙ h)
 
 -- ---- each name once
 
-once_same : (xs ys : List Object) → IsPermutation xs ys → HasEachNameOnce xs → HasEachNameOnce ys
+once_same : (xs ys : List ObjectParts) → IsPermutation xs ys → HasEachNameOnce xs → HasEachNameOnce ys
 once_same xs ys p h = IsDistinct-IsPermutation has_same_name same_name_flips xs ys p h
 
-once_right : (xs ys : List Object) → HasEachNameOnce (xs ++ ys) → HasEachNameOnce ys
+once_right : (xs ys : List ObjectParts) → HasEachNameOnce (xs ++ ys) → HasEachNameOnce ys
 once_right [] ys h = h
 once_right (x ∷ xs) ys h = once_right xs ys (IsDistinct-tail has_same_name x (xs ++ ys) h)
 
-each_left : (x : Object) (xs ys : List Object) → AllByRecursion (λ y. has_same_name x y ≡ false) (xs ++ ys) → AllByRecursion (λ y. has_same_name x y ≡ false) xs
+each_left : (x : ObjectParts) (xs ys : List ObjectParts) → AllByRecursion (λ y. has_same_name x y ≡ false) (xs ++ ys) → AllByRecursion (λ y. has_same_name x y ≡ false) xs
 each_left x [] ys h = tt
 each_left x (y ∷ xs) ys h = (h.0, each_left x xs ys h.1)
 
-once_left : (xs ys : List Object) → HasEachNameOnce (xs ++ ys) → HasEachNameOnce xs
+once_left : (xs ys : List ObjectParts) → HasEachNameOnce (xs ++ ys) → HasEachNameOnce xs
 unfolding IsDistinct
 once_left [] ys h = tt
 once_left (x ∷ xs) ys h = (each_left x xs ys h.0, once_left xs ys h.1)
 
-none_of : (x : Object) (ys : List Object) → AllByRecursion (λ y. has_same_name x y ≡ false) ys → has_object ys x.name ≡ false
+none_of : (x : ObjectParts) (ys : List ObjectParts) → AllByRecursion (λ y. has_same_name x y ≡ false) ys → has_object ys x.name ≡ false
 none_of x [] h = refl
 none_of x (y ∷ ys) h = false_or (name_eq y.name x.name) (has_object ys x.name) (same_name_flips y x ∙ h.0) (none_of x ys h.1)
 
-none_after : (x : Object) (ys : List Object) → HasEachNameOnce (x ∷ ys) → has_object ys x.name ≡ false
+none_after : (x : ObjectParts) (ys : List ObjectParts) → HasEachNameOnce (x ∷ ys) → has_object ys x.name ≡ false
 none_after x ys h = none_of x ys (IsDistinct-head has_same_name x ys h)
 
 -- a name of the first part is none of the second
-apart : (xs ys : List Object) (n : NameParts) → HasEachNameOnce (xs ++ ys) → has_object xs n ≡ true → has_object ys n ≡ false
+apart : (xs ys : List ObjectParts) (n : NameParts) → HasEachNameOnce (xs ++ ys) → has_object xs n ≡ true → has_object ys n ≡ false
 apart [] ys n h m = cc
 apart (x ∷ xs) ys n h m = elim (or_cases (name_eq x.name n) (has_object xs n) m) [
   | inl e ↦
@@ -84,7 +84,7 @@ apart (x ∷ xs) ys n h m = elim (or_cases (name_eq x.name n) (has_object xs n) 
 
 -- ---- taking objects
 
-pub taken_none : (wanted : NameParts → Bool) (todo left : List Object) → ((n : NameParts) → wanted n ≡ true → has_object left n ≡ false)
+pub taken_none : (wanted : NameParts → Bool) (todo left : List ObjectParts) → ((n : NameParts) → wanted n ≡ true → has_object left n ≡ false)
     → IsTaken wanted todo left todo left
 taken_none wanted todo left h = record {
   same = IsPermutation-refl (todo ++ left);
@@ -93,7 +93,7 @@ taken_none wanted todo left h = record {
   only = λ n k. inl k;
 }
 
-pub taken_one : (name : NameParts) (todo left : List Object) (i : ℕ) (o : Object) → i < length left → o ≡ get_or left i o → o.name ≡ name
+pub taken_one : (name : NameParts) (todo left : List ObjectParts) (i : ℕ) (o : ObjectParts) → i < length left → o ≡ get_or left i o → o.name ≡ name
     → IsTaken (name_eq name) todo left (todo ++ o ∷ []) (remove left i)
 taken_one name todo left i o lt is named =
     let moves = IsPermutation-remove left i o lt is in
@@ -109,7 +109,7 @@ taken_one name todo left i o lt is named =
       ];
     }
 
-pub taken_both : (a b both : NameParts → Bool) (t0 l0 t1 l1 t2 l2 : List Object) → ((n : NameParts) → both n ≡ (a n || b n))
+pub taken_both : (a b both : NameParts → Bool) (t0 l0 t1 l1 t2 l2 : List ObjectParts) → ((n : NameParts) → both n ≡ (a n || b n))
     → IsTaken a t0 l0 t1 l1 → IsTaken b t1 l1 t2 l2 → IsTaken both t0 l0 t2 l2
 taken_both a b both t0 l0 t1 l1 t2 l2 is p q = record {
   same = IsPermutation-trans (t0 ++ l0) (t1 ++ l1) (t2 ++ l2) p.same q.same;
@@ -124,7 +124,7 @@ taken_both a b both t0 l0 t1 l1 t2 l2 is p q = record {
   ];
 }
 
-pub taken_more : {X : Type 0} (wants : X → NameParts → Bool) (xs : List X) (i : ℕ) (x : X) (t0 l0 t1 l1 t2 l2 : List Object) → i < length xs → x ≡ get_or xs i x
+pub taken_more : {X : Type 0} (wants : X → NameParts → Bool) (xs : List X) (i : ℕ) (x : X) (t0 l0 t1 l1 t2 l2 : List ObjectParts) → i < length xs → x ≡ get_or xs i x
     → IsTaken (λ n. list_any (λ y. wants y n) (take i xs)) t0 l0 t1 l1 → IsTaken (wants x) t1 l1 t2 l2
     → IsTaken (λ n. list_any (λ y. wants y n) (take (i + 1) xs)) t0 l0 t2 l2
 taken_more wants xs i x t0 l0 t1 l1 t2 l2 lt is p q =
@@ -134,13 +134,13 @@ taken_more wants xs i x t0 l0 t1 l1 t2 l2 lt is p q =
 -- ---- the walk
 
 -- what was followed, what is to be followed, and what is left over
-pub record IsWalk (graph : List Object) (starts : List NameParts) (done todo left : List Object) : Type 0 where
+pub record IsWalk (graph : List ObjectParts) (starts : List NameParts) (done todo left : List ObjectParts) : Type 0 where
   pub same : IsPermutation graph ((done ++ todo) ++ left)
   pub sound : (n : NameParts) → has_object (done ++ todo) n ≡ true → IsReachedFrom graph starts n
   pub closed : AllByRecursion (λ o. (n : NameParts) → list_any (is_to n) o.refs ≡ true → has_object left n ≡ false) done
   pub begun : (n : NameParts) → has_name starts n ≡ true → has_object left n ≡ false
 
-pub walk_begun : (graph : List Object) (starts : List NameParts) (todo left : List Object) → HasEachNameOnce graph
+pub walk_begun : (graph : List ObjectParts) (starts : List NameParts) (todo left : List ObjectParts) → HasEachNameOnce graph
     → IsTaken (has_name starts) [] graph todo left → IsWalk graph starts [] todo left
 walk_begun graph starts todo left once p = record {
   same = p.same;
@@ -152,7 +152,7 @@ walk_begun graph starts todo left once p = record {
   begun = p.gone once;
 }
 
-closed_more : (done : List Object) (o : Object) (left left' : List Object) → ((n : NameParts) → has_object left n ≡ false → has_object left' n ≡ false)
+closed_more : (done : List ObjectParts) (o : ObjectParts) (left left' : List ObjectParts) → ((n : NameParts) → has_object left n ≡ false → has_object left' n ≡ false)
     → AllByRecursion (λ q. (n : NameParts) → list_any (is_to n) q.refs ≡ true → has_object left n ≡ false) done
     → ((n : NameParts) → list_any (is_to n) o.refs ≡ true → has_object left' n ≡ false)
     → AllByRecursion (λ q. (n : NameParts) → list_any (is_to n) q.refs ≡ true → has_object left' n ≡ false) (done ++ o ∷ [])
@@ -160,26 +160,26 @@ closed_more [] o left left' kept h new = (new, tt)
 closed_more (q ∷ qs) o left left' kept h new = (λ n r. kept n (h.0 n r), closed_more qs o left left' kept h.1 new)
 
 -- an object of the graph refers to what is among its references
-refers_from : (graph : List Object) (o : Object) (n : NameParts) → In o graph → list_any (is_to n) o.refs ≡ true → refers graph o.name n ≡ true
+refers_from : (graph : List ObjectParts) (o : ObjectParts) (n : NameParts) → In o graph → list_any (is_to n) o.refs ≡ true → refers graph o.name n ≡ true
 refers_from graph o n m r =
     in_any (λ q. name_eq q.name o.name && list_any (is_to n) q.refs) graph o m
     (and_from (name_eq o.name o.name) (list_any (is_to n) o.refs) (name_eq_refl o.name) r)
 
-refers_here : (graph front rest : List Object) (o : Object) (n : NameParts) → IsPermutation graph (front ++ o ∷ rest)
+refers_here : (graph front rest : List ObjectParts) (o : ObjectParts) (n : NameParts) → IsPermutation graph (front ++ o ∷ rest)
     → list_any (is_to n) o.refs ≡ true → refers graph o.name n ≡ true
 refers_here graph front rest o n p r =
     list_any-IsPermutation (λ q. name_eq q.name o.name && list_any (is_to n) q.refs) graph (front ++ o ∷ rest) p
     ∙ refers_from (front ++ o ∷ rest) o n (here front) r
   where
-    here : (front : List Object) → In o (front ++ o ∷ rest)
+    here : (front : List ObjectParts) → In o (front ++ o ∷ rest)
     here [] = inl refl
     here (x ∷ xs) = inr (here xs)
 
 -- the next object of those to be followed goes to those that were followed
-moved : (graph done todo left todo' left' : List Object) (o : Object) → IsPermutation graph ((done ++ (todo ++ o ∷ [])) ++ left)
+moved : (graph done todo left todo' left' : List ObjectParts) (o : ObjectParts) → IsPermutation graph ((done ++ (todo ++ o ∷ [])) ++ left)
     → IsPermutation (todo ++ left) (todo' ++ left') → IsPermutation graph (((done ++ o ∷ []) ++ todo') ++ left')
 moved graph done todo left todo' left' o p q =
-    let front : List Object = done ++ o ∷ [] in
+    let front : List ObjectParts = done ++ o ∷ [] in
     let turn : IsPermutation (done ++ (todo ++ o ∷ [])) (done ++ o ∷ todo) =
     IsPermutation-append_right done (todo ++ o ∷ []) (o ∷ todo) (IsPermutation-to_front todo o) in
     let turned : IsPermutation graph ((done ++ o ∷ todo) ++ left) =
@@ -193,18 +193,18 @@ moved graph done todo left todo' left' o p q =
     (IsPermutation-append_right front (todo ++ left) (todo' ++ left') q))
 
 -- those to be followed and those left over have each name once
-once_ahead : (graph done todo left : List Object) (o : Object) → HasEachNameOnce graph → IsPermutation graph ((done ++ (todo ++ o ∷ [])) ++ left)
+once_ahead : (graph done todo left : List ObjectParts) (o : ObjectParts) → HasEachNameOnce graph → IsPermutation graph ((done ++ (todo ++ o ∷ [])) ++ left)
     → HasEachNameOnce (todo ++ left)
 once_ahead graph done todo left o once p =
     let q = moved graph done todo left todo left o p (IsPermutation-refl (todo ++ left)) in
     let r : HasEachNameOnce (((done ++ o ∷ []) ++ todo) ++ left) = once_same graph (((done ++ o ∷ []) ++ todo) ++ left) q once in
     once_right (done ++ o ∷ []) (todo ++ left) (subst HasEachNameOnce (append_assoc (done ++ o ∷ []) todo left) r)
 
-sound_step : (graph : List Object) (starts : List NameParts) (done : List Object) (o : Object) (todo left todo' left' : List Object)
+sound_step : (graph : List ObjectParts) (starts : List NameParts) (done : List ObjectParts) (o : ObjectParts) (todo left todo' left' : List ObjectParts)
     → IsWalk graph starts done (todo ++ o ∷ []) left → IsTaken (λ n. list_any (is_to n) o.refs) todo left todo' left'
     → (n : NameParts) → has_object ((done ++ o ∷ []) ++ todo') n ≡ true → IsReachedFrom graph starts n
 sound_step graph starts done o todo left todo' left' w t n h =
-    let front : List Object = done ++ o ∷ [] in
+    let front : List ObjectParts = done ++ o ∷ [] in
     let at_end : IsPermutation graph ((front ++ todo') ++ left') = moved graph done todo left todo' left' o w.same t.same in
     let there : has_object graph n ≡ true = has_object-same graph ((front ++ todo') ++ left') at_end n ∙ in_left (front ++ todo') left' n h in
     let ahead = λ (k : NameParts) (m : has_object (todo ++ o ∷ []) k ≡ true). w.sound k (in_right done (todo ++ o ∷ []) k m) in
@@ -225,7 +225,7 @@ sound_step graph starts done o todo left todo' left' w t n h =
       ]
     ]
 
-pub walk_step : (graph : List Object) (starts : List NameParts) (done : List Object) (o : Object) (todo left todo' left' : List Object) → HasEachNameOnce graph
+pub walk_step : (graph : List ObjectParts) (starts : List NameParts) (done : List ObjectParts) (o : ObjectParts) (todo left todo' left' : List ObjectParts) → HasEachNameOnce graph
     → IsWalk graph starts done (todo ++ o ∷ []) left → IsTaken (λ n. list_any (is_to n) o.refs) todo left todo' left'
     → IsWalk graph starts (done ++ o ∷ []) todo' left'
 walk_step graph starts done o todo left todo' left' once w t = record {
@@ -237,20 +237,20 @@ walk_step graph starts done o todo left todo' left' once w t = record {
 
 -- ---- its end
 
-closed_at : (done left : List Object) → AllByRecursion (λ o. (n : NameParts) → list_any (is_to n) o.refs ≡ true → has_object left n ≡ false) done
-    → (o : Object) → In o done → (n : NameParts) → list_any (is_to n) o.refs ≡ true → has_object left n ≡ false
+closed_at : (done left : List ObjectParts) → AllByRecursion (λ o. (n : NameParts) → list_any (is_to n) o.refs ≡ true → has_object left n ≡ false) done
+    → (o : ObjectParts) → In o done → (n : NameParts) → list_any (is_to n) o.refs ≡ true → has_object left n ≡ false
 closed_at [] left h o m n r = absurd m
 closed_at (q ∷ qs) left h o m n r = elim m [
-  | inl e ↦ h.0 n (subst (λ (x : Object). list_any (is_to n) x.refs ≡ true) e r)
+  | inl e ↦ h.0 n (subst (λ (x : ObjectParts). list_any (is_to n) x.refs ≡ true) e r)
   | inr k ↦ closed_at qs left h.1 o k n r
 ]
 
 -- from what was followed no reference leads to what is left over
-stays : (graph done left : List Object) → HasEachNameOnce graph → IsPermutation graph (done ++ left)
+stays : (graph done left : List ObjectParts) → HasEachNameOnce graph → IsPermutation graph (done ++ left)
     → AllByRecursion (λ o. (n : NameParts) → list_any (is_to n) o.refs ≡ true → has_object left n ≡ false) done
     → (first next : NameParts) → has_object done first ≡ true → refers graph first next ≡ true → has_object left next ≡ false
 stays graph done left once p closed first next m r =
-    let test : Object → Bool = λ q. name_eq q.name first && list_any (is_to next) q.refs in
+    let test : ObjectParts → Bool = λ q. name_eq q.name first && list_any (is_to next) q.refs in
     let both : (list_any test done || list_any test left) ≡ true =
     sym (list_any-append test done left) ∙ (sym (list_any-IsPermutation test graph (done ++ left) p) ∙ r) in
     elim (or_cases (list_any test done) (list_any test left) both) [
@@ -266,7 +266,7 @@ stays graph done left once p closed first next m r =
           cc
     ]
 
-follows : (graph done left : List Object) → HasEachNameOnce graph → IsPermutation graph (done ++ left)
+follows : (graph done left : List ObjectParts) → HasEachNameOnce graph → IsPermutation graph (done ++ left)
     → AllByRecursion (λ o. (n : NameParts) → list_any (is_to n) o.refs ≡ true → has_object left n ≡ false) done
     → (first : NameParts) (rest : List NameParts) (last : NameParts) → has_object done first ≡ true → IsPath graph first rest last → has_object done last ≡ true
 follows graph done left once p closed first [] last m path = subst (λ n. has_object done n ≡ true) path.0 m
@@ -276,7 +276,7 @@ follows graph done left once p closed first (next ∷ rest) last m path =
     sym (has_object-append done left next) ∙ (sym (has_object-same graph (done ++ left) p next) ∙ path_first graph next rest last path.2) in
     follows graph done left once p closed next rest last (or_not_right (has_object done next) (has_object left next) there none) path.2
 
-pub walk_done : (graph : List Object) (starts : List NameParts) (done left : List Object) → HasEachNameOnce graph
+pub walk_done : (graph : List ObjectParts) (starts : List NameParts) (done left : List ObjectParts) → HasEachNameOnce graph
     → IsWalk graph starts done [] left → AreReached graph starts done
 walk_done graph starts done left once w =
     let p : IsPermutation graph (done ++ left) = subst (λ xs. IsPermutation graph (xs ++ left)) (append-nil done) w.same in
@@ -293,28 +293,28 @@ walk_done graph starts done left once w =
     }
 
 -- each step leaves fewer objects to be followed or left over
-pub fewer : (todo left todo' left' whole : List Object) (o : Object) → whole ≡ todo ++ o ∷ [] → IsPermutation (todo ++ left) (todo' ++ left')
+pub fewer : (todo left todo' left' whole : List ObjectParts) (o : ObjectParts) → whole ≡ todo ++ o ∷ [] → IsPermutation (todo ++ left) (todo' ++ left')
     → length todo' + length left' < length whole + length left
 fewer todo left todo' left' whole o is p =
     omega (arith, length_permutation (todo ++ left) (todo' ++ left') p, length-append todo left, length-append todo' left', length-append todo (o ∷ []), ap length is)
 
 -- ---- the names, in order
 
-has_name-map : (objects : List Object) (n : NameParts) → has_name (map (λ (o : Object). o.name) objects) n ≡ has_object objects n
+has_name-map : (objects : List ObjectParts) (n : NameParts) → has_name (map (λ (o : ObjectParts). o.name) objects) n ≡ has_object objects n
 has_name-map [] n = refl
 has_name-map (o ∷ os) n = ap (λ b. name_eq o.name n || b) (has_name-map os n)
 
-pub has_name-sorted : (objects : List Object) (names : List NameParts) → IsPermutation (map (λ (o : Object). o.name) objects) names
+pub has_name-sorted : (objects : List ObjectParts) (names : List NameParts) → IsPermutation (map (λ (o : ObjectParts). o.name) objects) names
     → (n : NameParts) → has_name names n ≡ has_object objects n
 has_name-sorted objects names p n =
-    sym (list_any-IsPermutation (λ k. name_eq k n) (map (λ (o : Object). o.name) objects) names p) ∙ has_name-map objects n
+    sym (list_any-IsPermutation (λ k. name_eq k n) (map (λ (o : ObjectParts). o.name) objects) names p) ∙ has_name-map objects n
 
-others : (o : Object) (os : List Object) → AllByRecursion (λ q. has_same_name o q ≡ false) os
-    → AllByRecursion (λ n. name_eq o.name n ≡ false) (map (λ (q : Object). q.name) os)
+others : (o : ObjectParts) (os : List ObjectParts) → AllByRecursion (λ q. has_same_name o q ≡ false) os
+    → AllByRecursion (λ n. name_eq o.name n ≡ false) (map (λ (q : ObjectParts). q.name) os)
 others o [] h = tt
 others o (q ∷ qs) h = (h.0, others o qs h.1)
 
-distinct_names : (objects : List Object) → HasEachNameOnce objects → IsDistinct name_eq (map (λ (o : Object). o.name) objects)
+distinct_names : (objects : List ObjectParts) → HasEachNameOnce objects → IsDistinct name_eq (map (λ (o : ObjectParts). o.name) objects)
 unfolding IsDistinct
 distinct_names [] h = tt
 distinct_names (o ∷ os) h = (others o os h.0, distinct_names os h.1)
@@ -349,7 +349,7 @@ numbers_ascend names h = λ i j d ij lt.
     let lj : j < length names = omega arith in
     omega (arith, get_or-map number_of names i root_name d li, get_or-map number_of names j root_name d lj, h i j root_name ij lj)
 
-pub ascend : (objects : List Object) (before names : List NameParts) → HasEachNameOnce objects → before ≡ map (λ (o : Object). o.name) objects
+pub ascend : (objects : List ObjectParts) (before names : List NameParts) → HasEachNameOnce objects → before ≡ map (λ (o : ObjectParts). o.name) objects
     → All IsName before → IsPermutation before names → IsNonDecreasingBy number_of names → IsStrictlyIncreasing (map number_of names)
 ascend objects before names once is each p sorted =
     let distinct : IsDistinct name_eq names =

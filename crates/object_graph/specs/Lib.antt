@@ -1,7 +1,9 @@
 pub mod NameParts
 pub mod Names
+pub mod ObjectParts
 pub mod Slots
 pub mod SlotParts
 pub mod Graphs
 pub mod Walks
 pub mod Members
+pub mod Replies

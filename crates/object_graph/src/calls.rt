@@ -1,4 +1,7 @@
 //! Calls, replies and refusals.
+ghost use Rattle.std.specs.Prelude.{◌≡◌};
+ghost use Rattle.object_graph.specs.Replies.{done_reply, made_reply, num_reply, ref_reply};
+
 use crate::names::Name;
 use crate::slots::SlotSet;
 
@@ -79,6 +82,48 @@ pub enum Reply {
     Freed { slots: SlotSet },
     Reopened { commits: u64 },
     Refused { why: Refusal },
+}
+
+impl Reply {
+    /// The reply of a call that answers nothing.
+    pub fn done(answer: Result<(), Refusal>) -> Reply
+        ensures { result ≡ done_reply answer }
+    {
+        match answer {
+            Ok(()) => Reply::Done,
+            Err(why) => Reply::Refused { why },
+        }
+    }
+
+    /// The reply of a call that answers a reference.
+    pub fn reference(answer: Result<Option<Name>, Refusal>) -> Reply
+        ensures { result ≡ ref_reply answer }
+    {
+        match answer {
+            Ok(target) => Reply::Ref { target },
+            Err(why) => Reply::Refused { why },
+        }
+    }
+
+    /// The reply of a call that answers a number.
+    pub fn number(answer: Result<u64, Refusal>) -> Reply
+        ensures { result ≡ num_reply answer }
+    {
+        match answer {
+            Ok(value) => Reply::Num { value },
+            Err(why) => Reply::Refused { why },
+        }
+    }
+
+    /// The reply of a call that makes an object.
+    pub fn made(answer: Result<Name, Refusal>) -> Reply
+        ensures { result ≡ made_reply answer }
+    {
+        match answer {
+            Ok(name) => Reply::Made { name },
+            Err(why) => Reply::Refused { why },
+        }
+    }
 }
 
 /// Why a call was refused.

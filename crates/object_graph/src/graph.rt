@@ -3,7 +3,7 @@ ghost use Rattle.std.specs.Prelude.{◌≡◌, ◌<◌, ◌++◌, ◌∷◌, [],
 ghost use Rattle.object_graph.specs.Graphs.{fields_in, fresh_graph, numbered_object, object_fields, object_named, has_object, with_number, with_ref, HasEachNameOnce};
 
 use crate::memory::Memory;
-use crate::names::{Name, Object, ROOT};
+use crate::names::{Name, OBJECT_FIELDS, Object, ROOT};
 use std::alloc::Global;
 use std::marker::Model;
 
@@ -17,9 +17,9 @@ pub struct Graph {
 impl Model for Graph {
     ghost use Rattle.std.specs.Prelude.{List};
     ghost use Rattle.object_graph.specs.Graphs.{HasEachNameOnce};
-    ghost use Rattle.object_graph.specs.declared.names.Object.{Object};
+    ghost use Rattle.object_graph.specs.ObjectParts.{ObjectParts};
 
-    ghost Value = { List Object };
+    ghost Value = { List ObjectParts };
 
     ghost view = { λ g. g.objects.items };
 
@@ -35,7 +35,7 @@ impl Graph {
         let root = Object {
             name: ROOT,
             number: 0,
-            refs: [None, None, None, None],
+            refs: [None; OBJECT_FIELDS],
         };
         match objects.push(root) {
             Ok(()) => Ok(Graph { objects }),
@@ -63,7 +63,7 @@ impl Graph {
         let object = Object {
             name,
             number,
-            refs: [None, None, None, None],
+            refs: [None; OBJECT_FIELDS],
         };
         match self.objects.push(object) {
             Ok(()) => Ok(true),

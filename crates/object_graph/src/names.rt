@@ -3,6 +3,7 @@ ghost use Rattle.std.specs.Prelude.{◌≡◌, ℕ, ◌+◌, ◌-◌, ◌*◌, �
 ghost use Rattle.object_graph.specs.NameParts.{NameParts};
 ghost use Rattle.object_graph.specs.Names.{number_of, root_name, IsName, IsNumberOfName};
 
+use crate::limits::{MOST_PAGES, MOST_SLOTS};
 use std::marker::Model;
 
 /// A name of an object: a page, a slot of it, and which object of that slot it is, counted from 1
@@ -49,7 +50,7 @@ impl Name {
         let page = number >> 32;
         let slot = (number >> 16) & 0xffff;
         let generation = number & 0xffff;
-        if page < 4096 && slot < 40 && 1 <= generation {
+        if page < MOST_PAGES as u64 && slot < MOST_SLOTS as u64 && 1 <= generation {
             Some(Name {
                 page: page as u32,
                 slot: slot as u16,
@@ -71,8 +72,8 @@ impl Name {
 
     /// The name of these parts.
     pub fn at(page: u32, slot: u16, generation: u16) -> Name
-        requires page { page < 4096 }
-        requires slot { slot < 40 }
+        requires page { page < MOST_PAGES }
+        requires slot { slot < MOST_SLOTS }
         requires first { 1 ≤ generation }
         ensures page { result.page ≡ page }
         ensures slot { result.slot ≡ slot }
@@ -88,7 +89,7 @@ impl Name {
     /// The page on which the object is.
     pub fn page(self) -> u32
         ensures value { result ≡ self.page }
-        ensures bound { result < 4096 }
+        ensures bound { result < MOST_PAGES }
     {
         self.page
     }
@@ -96,7 +97,7 @@ impl Name {
     /// The slot of that page.
     pub fn slot(self) -> u16
         ensures value { result ≡ self.slot }
-        ensures bound { result < 40 }
+        ensures bound { result < MOST_SLOTS }
     {
         self.slot
     }
@@ -125,10 +126,23 @@ pub fn names_and_numbers_are_one_to_one()
     ensures from { (k : ℕ) → IsNumberOfName k → (n : NameParts) × IsName n × (number_of n ≡ k) }
 {}
 
-/// An object with its fields.
+/// How many references an object of the plain graph has.
+pub const OBJECT_FIELDS: usize = 4;
+
+/// An object with its fields. Contracts see its references as a list.
 #[derive(Clone, Copy, Debug, PartialEq, Eq)]
 pub struct Object {
     pub name: Name,
     pub number: u64,
-    pub refs: [Option<Name>; 4],
+    pub refs: [Option<Name>; OBJECT_FIELDS],
+}
+
+impl Model for Object {
+    ghost use Rattle.object_graph.specs.ObjectParts.{ObjectParts};
+
+    ghost Value = { ObjectParts };
+
+    ghost view = { λ o. record { name = o.name; number = o.number; refs = o.refs } };
+
+    ghost inverse = { λ v. record { name = v.name; number = v.number; refs = v.refs } };
 }

@@ -6,7 +6,7 @@ ghost use Rattle.object_graph.specs.NameParts.{NameParts, IsName};
 ghost use Rattle.object_graph.specs.Names.{name_eq, number_of};
 ghost use Rattle.object_graph.specs.Graphs.{has_name, has_object, is_to, HasEachNameOnce, IsReachedFrom};
 ghost use Rattle.object_graph.specs.Walks.{AreReached, IsTaken};
-ghost use Rattle.object_graph.specs.declared.names.Object.{Object};
+ghost use Rattle.object_graph.specs.ObjectParts.{ObjectParts};
 
 use crate::graph::Graph;
 use crate::memory::Memory;
@@ -94,7 +94,7 @@ fn take(todo: &mut Vec<Object>, left: &mut Vec<Object>, name: &Name) -> Result<(
 }
 
 fn place_of(objects: &[Object], name: &Name) -> Option<usize>
-    ensures some { IfSome result (λ place. (place < length objects.now) × ((d : Object) → (slice_index_or objects.now place d).name ≡ name.now)) }
+    ensures some { IfSome result (λ place. (place < length objects.now) × ((d : ObjectParts) → (slice_index_or objects.now place d).name ≡ name.now)) }
     ensures none { IfNone result (All (λ o. name_eq o.name name.now ≡ false) objects.now) }
 {
     objects.iter().position(|object| object.name == *name)

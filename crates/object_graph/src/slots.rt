@@ -2,9 +2,10 @@
 ghost use Rattle.std.specs.Prelude.{◌≡◌, ℕ, ◌<◌, ◌^◌, ◌↔◌, ◌==◌, ◌||◌, ◌&&◌, false, not, IfNone, IfSome, IsTrue};
 ghost use Rattle.object_graph.specs.Slots.{has_slot};
 
+use crate::limits::MOST_SLOTS;
 use std::marker::Model;
 
-/// A set of slots 0 to 39. Contracts see it as the number whose bits are the slots.
+/// A set of slots that names can tell apart. Contracts see it as the number whose bits are the slots.
 #[derive(Clone, Copy, Debug, PartialEq, Eq)]
 pub struct SlotSet {
     bits: u64,
@@ -12,12 +13,13 @@ pub struct SlotSet {
 
 impl Model for SlotSet {
     ghost use Rattle.std.specs.Prelude.{ℕ, ◌<◌, ◌^◌};
+    ghost use Rattle.object_graph.specs.declared.limits.TheConstants.{MOST_SLOTS};
 
     ghost Value = { ℕ };
 
     ghost view = { λ s. s.bits };
 
-    ghost invariant = { λ s. s.bits < 2 ^ 40 };
+    ghost invariant = { λ s. s.bits < 2 ^ MOST_SLOTS };
 
     ghost inverse = { λ n. record { bits = n } };
 }
@@ -33,7 +35,7 @@ impl SlotSet {
 
     /// Whether the slot is in the set.
     pub fn has(self, slot: u16) -> bool
-        requires { slot < 40 }
+        requires { slot < MOST_SLOTS }
         ensures { result ≡ has_slot self slot }
     {
         (self.bits >> slot) & 1 == 1
@@ -41,7 +43,7 @@ impl SlotSet {
 
     /// The set with this slot in it.
     pub fn with(self, slot: u16) -> SlotSet
-        requires { slot < 40 }
+        requires { slot < MOST_SLOTS }
         ensures { (s : ℕ) → has_slot result s ≡ (has_slot self s || s == slot) }
     {
         SlotSet {
@@ -70,7 +72,7 @@ impl SlotSet {
     /// Whether no slot is in the set.
     pub fn is_empty(self) -> bool
         ensures number { IsTrue result ↔ (self ≡ 0) }
-        ensures slots { IsTrue result ↔ ((s : ℕ) → s < 40 → has_slot self s ≡ false) }
+        ensures slots { IsTrue result ↔ ((s : ℕ) → s < MOST_SLOTS → has_slot self s ≡ false) }
     {
         self.bits == 0
     }
@@ -78,7 +80,7 @@ impl SlotSet {
     /// The least slot of the set, `None` for the empty set.
     pub fn least(self) -> Option<u16>
         ensures none { IfNone result (self ≡ 0) }
-        ensures bound { IfSome result (λ slot. slot < 40) }
+        ensures bound { IfSome result (λ slot. slot < MOST_SLOTS) }
         ensures has { IfSome result (λ slot. IsTrue (has_slot self slot)) }
         ensures least { IfSome result (λ slot. (s : ℕ) → s < slot → has_slot self s ≡ false) }
     {
@@ -92,5 +94,5 @@ impl SlotSet {
 
 /// Two sets with the same slots are one set.
 pub fn sets_are_their_slots()
-    ensures { (a b : ℕ) → a < 2 ^ 40 → b < 2 ^ 40 → ((s : ℕ) → s < 40 → has_slot a s ≡ has_slot b s) → a ≡ b }
+    ensures { (a b : ℕ) → a < 2 ^ MOST_SLOTS → b < 2 ^ MOST_SLOTS → ((s : ℕ) → s < MOST_SLOTS → has_slot a s ≡ has_slot b s) → a ≡ b }
 {}

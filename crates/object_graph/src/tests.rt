@@ -30,6 +30,20 @@ fn the_table_of_names(rt: HostRuntime) -> Result<(), Fail> {
 }
 
 #[test]
+fn results_are_replies(rt: HostRuntime) {
+    let name = Name::at(1, 2, 3);
+    assert_eq!(rt; Reply::done(Ok(())), Reply::Done);
+    assert_eq!(rt;
+        Reply::reference(Ok(Some(name))),
+        Reply::Ref { target: Some(name) }
+    );
+    assert_eq!(rt; Reply::number(Ok(7)), Reply::Num { value: 7 });
+    assert_eq!(rt; Reply::made(Ok(name)), Reply::Made { name });
+    let why = Refusal::Busy { holder: 9 };
+    assert_eq!(rt; Reply::made(Err(why)), Reply::Refused { why });
+}
+
+#[test]
 fn the_least_slot(rt: HostRuntime) {
     let slots = SlotSet::empty().with(39).with(7).with(21);
     assert_eq!(rt; slots.least(), Some(7));

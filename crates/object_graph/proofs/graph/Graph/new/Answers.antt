@@ -1,10 +1,10 @@
 use Rattle.std.proofs.Common.{rules, ◌≡◌, [], ◌∷◌, subst, sym}
 use Rattle.std.specs.List.{IsDistinct}
 use Rattle.object_graph.specs.Graphs.{HasEachNameOnce, fresh_graph}
-use Rattle.object_graph.specs.declared.names.Object.{Object}
+use Rattle.object_graph.specs.ObjectParts.{ObjectParts}
 use Rattle.object_graph.proofs.graph.Graph.new.Goals as goal
 
-one_alone : (o : Object) → HasEachNameOnce (o ∷ [])
+one_alone : (o : ObjectParts) → HasEachNameOnce (o ∷ [])
 unfolding IsDistinct
 one_alone o = (tt, tt)
 
