@@ -7,13 +7,13 @@ use Rattle.std.specs.Option.{option_map}
 use Rattle.std.proofs.lemmas.Bool.{and_parts, and_from, or_cases, cases_Bool, eqb-true, not-true, not-false}
 use Rattle.std.proofs.lemmas.List.Elements.{filter-append}
 use Rattle.object_graph.specs.NameParts.{NameParts}
-use Rattle.object_graph.specs.declared.names.Object.{Object}
+use Rattle.object_graph.specs.ObjectParts.{ObjectParts}
 use Rattle.object_graph.specs.declared.calls.Call.TheVariants.{Get, Number, Set, Put, New}
 use Rattle.object_graph.specs.Graphs.{has_name, is_at, objects_at}
 use Rattle.object_graph.specs.Slots.{below}
-use Rattle.store_model.specs.Worlds.{World, Transaction, Note, Write, link, assign, slots_of, starts, is_unfreed, transaction}
+use Rattle.object_graph.specs.declared.limits.TheConstants.{LAST_GENERATION}
+use Rattle.store_model.specs.Worlds.{World, Transaction, Note, Write, link, assign, slots_of, is_unfreed, transaction}
 use Rattle.store_model.specs.Causes.{has_page, first_refusal, causes, not_open, stranger, strange_target, busy_to_read, busy_to_write, field_seen, holder, is_occupied, free_slot, name_at, new_name}
-use Rattle.store_model.specs.Limits.{last_generation}
 use Rattle.store_model.specs.Steps.{with_page, with_name, with_target, with_transaction, with_new, reads_page, writes, makes}
 use Rattle.store_model.specs.Lawful.{IsOwn, IsKnownWrite, IsCovered, IsLawfulTransaction, IsApart}
 use Rattle.object_graph.proofs.Members.{In, in_append, append_left, append_right, each_in, each_from, or_left, or_right}
@@ -92,7 +92,7 @@ grew_reading t page (Some name) =
     record { known = λ n h. with_name_keeps name n t.known h; own = λ n h. h; read = λ p h. with_page_keeps page p t.pages_read h; written = λ p h. h }
 
 reading : (w : World) (n page : ℕ) (v : Option NameParts) → IsOrderly w → not_open w n ≡ None → busy_to_read w n page ≡ None
-    → ((target : NameParts) → v ≡ Some target → IsCovered w.graph (starts w) (reads_page page (record (transaction w n) { known = with_target v (transaction w n).known })) target)
+    → ((target : NameParts) → v ≡ Some target → IsCovered w.graph (reads_page page (record (transaction w n) { known = with_target v (transaction w n).known })) target)
     → IsLawfulChange w n (λ u. reads_page page (record u { known = with_target v u.known }))
 reading w n page v lawful opn free is_covered = record {
   is_open = open_in w n opn;
@@ -119,15 +119,15 @@ reading w n page v lawful opn free is_covered = record {
     g : Grew t after
     g = grew_reading t page v
 
-    lt : IsLawfulTransaction w.graph w.freed (starts w) t
+    lt : IsLawfulTransaction w.graph w.freed t
     lt = lawful_one w t lawful (open_in w n opn)
 
-    knows : (o : Option NameParts) → v ≡ o → AllByRecursion (IsCovered w.graph (starts w) after) (with_target o t.known)
-    knows None e = grew_all_known w.graph (starts w) t after g lt.known
-    knows (Some target) e = each_from (IsCovered w.graph (starts w) after) (with_name target t.known) (λ m i.
+    knows : (o : Option NameParts) → v ≡ o → AllByRecursion (IsCovered w.graph after) (with_target o t.known)
+    knows None e = grew_all_known w.graph t after g lt.known
+    knows (Some target) e = each_from (IsCovered w.graph after) (with_name target t.known) (λ m i.
         elim (in_with_name target m t.known i) [
-          | inl q ↦ subst (IsCovered w.graph (starts w) after) (sym q) (is_covered target e)
-          | inr before ↦ grew_covered w.graph (starts w) t after m g (each_in (IsCovered w.graph (starts w) t) t.known m lt.known before)
+          | inl q ↦ subst (IsCovered w.graph after) (sym q) (is_covered target e)
+          | inr before ↦ grew_covered w.graph t after m g (each_in (IsCovered w.graph t) t.known m lt.known before)
         ])
 
 pub get_is_orderly : (w : World) (n : ℕ) (name : NameParts) (field : ℕ) (note : Note) → IsOrderly w → first_refusal w (Get n name field) note ≡ None
@@ -162,7 +162,7 @@ writing w n page write lawful opn free known = record {
     own = grew_all_own w.graph w.freed t after g lt.own;
     one_at_each_place = lt.one_at_each_place;
     writes = (known, grew_all_writes t after g lt.writes);
-    known = grew_all_known w.graph (starts w) t after g lt.known;
+    known = grew_all_known w.graph t after g lt.known;
   };
   placed = placed_one w t lawful (open_in w n opn);
   apart = λ u j ne.
@@ -179,7 +179,7 @@ writing w n page write lawful opn free known = record {
     g : Grew t after
     g = grew_writing t write page
 
-    lt : IsLawfulTransaction w.graph w.freed (starts w) t
+    lt : IsLawfulTransaction w.graph w.freed t
     lt = lawful_one w t lawful (open_in w n opn)
 
 known_link : (w : World) (n : ℕ) (name : NameParts) (field : ℕ) (target : Option NameParts) → stranger w n name ≡ None → strange_target w n target ≡ None
@@ -220,6 +220,7 @@ pub record IsVacant (w : World) (n page slot : ℕ) : Type 0 where
   pub within : slot < slots_of w page
   pub free : AllByRecursion (λ o. IsTrue (has_name w.freed o.name)) (objects_at w.graph page slot)
   pub none : list_any (is_at page slot) (transaction w n).own ≡ false
+  pub young : (o : ObjectParts) → In o (objects_at w.graph page slot) → (o.name.generation == LAST_GENERATION) ≡ false
 
 or_none : (a b : Bool) → (a || b) ≡ false → (a ≡ false) × (b ≡ false)
 or_none true b e = cc
@@ -234,13 +235,16 @@ vacant w n page slot e =
     let test : ℕ → Bool = λ slot. not (is_occupied w n page slot) in
     let m = find_in test (below (slots_of w page)) slot e in
     let o = not-true (is_occupied w n page slot) (find_passes test (below (slots_of w page)) slot e) in
-    let parts = or_none (list_any (λ (o : Object). is_unfreed w.freed o || (o.name.generation == last_generation)) (objects_at w.graph page slot)) (list_any (is_at page slot) (transaction w n).own) o in
+    let parts = or_none (list_any (λ (o : ObjectParts). is_unfreed w.freed o || (o.name.generation == LAST_GENERATION)) (objects_at w.graph page slot)) (list_any (is_at page slot) (transaction w n).own) o in
     record {
       within = below_bound (slots_of w page) slot m;
-      free = each_from (λ (o : Object). IsTrue (has_name w.freed o.name)) (objects_at w.graph page slot) (λ o i.
-          let a = none_pass (λ (o : Object). is_unfreed w.freed o || (o.name.generation == last_generation)) (objects_at w.graph page slot) o parts.0 i in
-          not-false (has_name w.freed o.name) (or_none (is_unfreed w.freed o) (o.name.generation == last_generation) a).0);
+      free = each_from (λ (o : ObjectParts). IsTrue (has_name w.freed o.name)) (objects_at w.graph page slot) (λ o i.
+          let a = none_pass (λ (o : ObjectParts). is_unfreed w.freed o || (o.name.generation == LAST_GENERATION)) (objects_at w.graph page slot) o parts.0 i in
+          not-false (has_name w.freed o.name) (or_none (is_unfreed w.freed o) (o.name.generation == LAST_GENERATION) a).0);
       none = parts.1;
+      young = λ o i.
+          let a = none_pass (λ (o : ObjectParts). is_unfreed w.freed o || (o.name.generation == LAST_GENERATION)) (objects_at w.graph page slot) o parts.0 i in
+          (or_none (is_unfreed w.freed o) (o.name.generation == LAST_GENERATION) a).1;
     }
 
 one_more_at : (p s page slot generation : ℕ) (names : List NameParts) → length (filter (is_at p s) names) < 2 → list_any (is_at page slot) names ≡ false
@@ -280,10 +284,10 @@ making w n page slot lawful opn within free is = record {
     ]);
     one_at_each_place = λ p s. one_more_at p s page slot (1 + length (objects_at w.graph page slot)) t.own (lt.one_at_each_place p s) is.none;
     writes = grew_all_writes t after g lt.writes;
-    known = each_from (IsCovered w.graph (starts w) after) (with_name name t.known) (λ m i.
+    known = each_from (IsCovered w.graph after) (with_name name t.known) (λ m i.
         elim (in_with_name name m t.known i) [
-          | inl q ↦ subst (IsCovered w.graph (starts w) after) (sym q) (inl (in_has_name (t.own ++ name ∷ []) name (append_right t.own (name ∷ []) name (inl refl))))
-          | inr before ↦ grew_covered w.graph (starts w) t after m g (each_in (IsCovered w.graph (starts w) t) t.known m lt.known before)
+          | inl q ↦ subst (IsCovered w.graph after) (sym q) (inl (in_has_name (t.own ++ name ∷ []) name (append_right t.own (name ∷ []) name (inl refl))))
+          | inr before ↦ grew_covered w.graph t after m g (each_in (IsCovered w.graph t) t.known m lt.known before)
         ]);
   };
   placed = each_from (IsPlacedName w) (t.own ++ name ∷ []) (λ m i. elim (in_append t.own (name ∷ []) m i) [
@@ -307,7 +311,7 @@ making w n page slot lawful opn within free is = record {
     g : Grew t after
     g = grew_making t name
 
-    lt : IsLawfulTransaction w.graph w.freed (starts w) t
+    lt : IsLawfulTransaction w.graph w.freed t
     lt = lawful_one w t lawful (open_in w n opn)
 
 pub new_is_orderly : (w : World) (n page : ℕ) (note : Note) → IsOrderly w → first_refusal w (New n page) note ≡ None → IsOrderly (with_new w n (new_name w n page))

@@ -7,9 +7,9 @@ use Rattle.std.proofs.lemmas.List.{length-map}
 use Rattle.std.proofs.lemmas.List.Elements.{filter-append}
 use Rattle.object_graph.specs.NameParts.{NameParts}
 use Rattle.object_graph.specs.Names.{root_name}
-use Rattle.object_graph.specs.declared.names.Object.{Object}
+use Rattle.object_graph.specs.ObjectParts.{ObjectParts}
 use Rattle.object_graph.specs.Graphs.{has_name, has_object, is_at, objects_at, IsPath}
-use Rattle.store_model.specs.Worlds.{World, Transaction, starts, view, is_freed, unfreed, with_writes, new_object, transaction}
+use Rattle.store_model.specs.Worlds.{World, Transaction, view, is_freed, unfreed, with_writes, new_object, transaction}
 use Rattle.store_model.specs.Causes.{has_page}
 use Rattle.store_model.specs.Steps.{without, committed}
 use Rattle.store_model.specs.Lawful.{IsOwn, IsCovered, IsLawfulTransaction, IsApart, AreApart}
@@ -28,7 +28,7 @@ use Rattle.store_model.proofs.Orders.{IsPlacedName, lawful_one, placed_one}
 
 -- ---- the graph
 
-pub path_last : (graph : List Object) (first : NameParts) (rest : List NameParts) (last : NameParts) → IsPath graph first rest last → has_object graph last ≡ true
+pub path_last : (graph : List ObjectParts) (first : NameParts) (rest : List NameParts) (last : NameParts) → IsPath graph first rest last → has_object graph last ≡ true
 path_last graph first [] last p = subst (λ n. has_object graph n ≡ true) p.0 p.1
 path_last graph first (n ∷ ns) last p = path_last graph n ns last p.2
 
@@ -42,19 +42,19 @@ own_in_view w t name h =
 -- how many names a place has in the view
 length_view : (w : World) (t : Transaction) (page slot : ℕ) → length (objects_at (view w t) page slot) ≡ length (objects_at w.graph page slot) + length (filter (is_at page slot) t.own)
 length_view w t page slot =
-    let news : List Object = map (new_object w) t.own in
+    let news : List ObjectParts = map (new_object w) t.own in
     let a : objects_at (view w t) page slot ≡ map (with_writes t.writes) (objects_at (w.graph ++ news) page slot) =
     objects_at-map (with_writes t.writes) (w.graph ++ news) page slot (name-with_writes t.writes) in
     let b : objects_at (w.graph ++ news) page slot ≡ objects_at w.graph page slot ++ map (new_object w) (filter (is_at page slot) t.own) =
-    filter-append (λ (o : Object). is_at page slot o.name) w.graph news
-    ∙ ap (λ os. objects_at w.graph page slot ++ os) (filter_of_map (new_object w) (λ (o : Object). is_at page slot o.name) t.own) in
+    filter-append (λ (o : ObjectParts). is_at page slot o.name) w.graph news
+    ∙ ap (λ os. objects_at w.graph page slot ++ os) (filter_of_map (new_object w) (λ (o : ObjectParts). is_at page slot o.name) t.own) in
     ap length a
     ∙ (length-map (objects_at (w.graph ++ news) page slot) (with_writes t.writes)
     ∙ (ap length b
     ∙ (length-append (objects_at w.graph page slot) (map (new_object w) (filter (is_at page slot) t.own))
     ∙ ap (λ k. length (objects_at w.graph page slot) + k) (length-map (filter (is_at page slot) t.own) (new_object w)))))
 
-none_at : (w : World) (t : Transaction) (o : Object) → AllByRecursion (IsOwn w.graph w.freed t) t.own → In o w.graph → is_unfreed w.freed o ≡ true
+none_at : (w : World) (t : Transaction) (o : ObjectParts) → AllByRecursion (IsOwn w.graph w.freed t) t.own → In o w.graph → is_unfreed w.freed o ≡ true
     → filter (is_at o.name.page o.name.slot) t.own ≡ []
 none_at w t o own i u = any_false_filter (is_at o.name.page o.name.slot) t.own (elim (cases_Bool (list_any (is_at o.name.page o.name.slot) t.own)) [
   | inr e ↦ e
@@ -66,8 +66,8 @@ none_at w t o own i u = any_false_filter (is_at o.name.page o.name.slot) t.own (
       let at : is_at n.page n.slot o.name ≡ true =
       and_from (o.name.page == n.page) (o.name.slot == n.slot)
       (eq-eqb o.name.page n.page (sym (eqb-true n.page o.name.page b.0))) (eq-eqb o.name.slot n.slot (sym (eqb-true n.slot o.name.slot b.1))) in
-      let f = each_in (λ (o : Object). IsTrue (has_name w.freed o.name)) (objects_at w.graph n.page n.slot) o is.free
-      (filter_in (λ (p : Object). is_at n.page n.slot p.name) w.graph o i at) in
+      let f = each_in (λ (o : ObjectParts). IsTrue (has_name w.freed o.name)) (objects_at w.graph n.page n.slot) o is.free
+      (filter_in (λ (p : ObjectParts). is_at n.page n.slot p.name) w.graph o i at) in
       let g = not-true (has_name w.freed o.name) u in
       cc
 ])
@@ -76,16 +76,16 @@ some_length : {A : Type 0} (xs : List A) (x : A) → In x xs → 0 < length xs
 some_length [] x m = absurd m
 some_length (y ∷ ys) x m = omega arith
 
-last_in_view : (w : World) (t : Transaction) (seen : Object) → IsOrderly w → IsLawfulTransaction w.graph w.freed (starts w) t → In seen (view w t) → is_unfreed w.freed seen ≡ true
+last_in_view : (w : World) (t : Transaction) (seen : ObjectParts) → IsOrderly w → IsLawfulTransaction w.graph w.freed t → In seen (view w t) → is_unfreed w.freed seen ≡ true
     → seen.name.generation ≡ length (objects_at (view w t) seen.name.page seen.name.slot)
 last_in_view w t seen lawful lt m u =
     let v = view_object w t seen m in
-    let o : Object = v.0 in
-    let named : o.name ≡ seen.name = sym (name-with_writes t.writes o) ∙ ap (λ (x : Object). x.name) (sym v.1.1) in
+    let o : ObjectParts = v.0 in
+    let named : o.name ≡ seen.name = sym (name-with_writes t.writes o) ∙ ap (λ (x : ObjectParts). x.name) (sym v.1.1) in
     elim v.1.0 [
       | inl g ↦
           let unf : is_unfreed w.freed o ≡ true = subst (λ n. not (has_name w.freed n) ≡ true) (sym named) u in
-          let e = each_in (λ (o : Object). o.name.generation ≡ length (objects_at w.graph o.name.page o.name.slot)) (unfreed w) o lawful.last (filter_in (is_unfreed w.freed) w.graph o g unf) in
+          let e = each_in (λ (o : ObjectParts). o.name.generation ≡ length (objects_at w.graph o.name.page o.name.slot)) (unfreed w) o lawful.last (filter_in (is_unfreed w.freed) w.graph o g unf) in
           let z = ap length (none_at w t o lt.own g unf) in
           let l = length_view w t o.name.page o.name.slot in
           let k : o.name.generation ≡ length (objects_at (view w t) o.name.page o.name.slot) = omega arith in
@@ -93,7 +93,7 @@ last_in_view w t seen lawful lt m u =
       | inr n ↦
           let name : NameParts = n.0 in
           let is = each_in (IsOwn w.graph w.freed t) t.own name lt.own n.1 in
-          let q : name ≡ seen.name = ap (λ (x : Object). x.name) (sym n.2) ∙ named in
+          let q : name ≡ seen.name = ap (λ (x : ObjectParts). x.name) (sym n.2) ∙ named in
           let at : is_at name.page name.slot name ≡ true = and_from (name.page == name.page) (name.slot == name.slot) (eq-eqb name.page name.page refl) (eq-eqb name.slot name.slot refl) in
           let few = lt.one_at_each_place name.page name.slot in
           let some = some_length (filter (is_at name.page name.slot) t.own) name (filter_in (is_at name.page name.slot) t.own name n.1 at) in
@@ -104,20 +104,20 @@ last_in_view w t seen lawful lt m u =
     ]
 
 -- the world with the view of a lawful transaction as its graph, and no open transactions
-pub view_is_orderly : (w : World) (t : Transaction) (commits : ℕ) → IsOrderly w → IsLawfulTransaction w.graph w.freed (starts w) t → AllByRecursion (IsPlacedName w) t.own
+pub view_is_orderly : (w : World) (t : Transaction) (commits : ℕ) → IsOrderly w → IsLawfulTransaction w.graph w.freed t → AllByRecursion (IsPlacedName w) t.own
     → IsOrderly (record w { graph = view w t; commits = commits; transactions = [] })
 view_is_orderly w t commits lawful lt placed =
     let sv : IsSafeView w t = safe_view w t lawful.counted lt in
     let root = and_parts (has_object w.graph root_name) (not (is_freed w root_name)) lawful.root in
     record {
       root = and_from (has_object (view w t) root_name) (not (is_freed w root_name)) (name_in_view w t root_name root.0) root.1;
-      placed = each_from (λ (o : Object). IsPlacedName w o.name) (view w t) (λ seen m.
+      placed = each_from (λ (o : ObjectParts). IsPlacedName w o.name) (view w t) (λ seen m.
           let v = view_object w t seen m in
-          let o : Object = v.0 in
-          let named : o.name ≡ seen.name = sym (name-with_writes t.writes o) ∙ ap (λ (x : Object). x.name) (sym v.1.1) in
+          let o : ObjectParts = v.0 in
+          let named : o.name ≡ seen.name = sym (name-with_writes t.writes o) ∙ ap (λ (x : ObjectParts). x.name) (sym v.1.1) in
           subst (IsPlacedName w) named (elim v.1.0 [
-            | inl g ↦ each_in (λ (o : Object). IsPlacedName w o.name) w.graph o lawful.placed g
-            | inr n ↦ subst (λ (x : Object). IsPlacedName w x.name) (sym n.2) (each_in (IsPlacedName w) t.own n.0 placed n.1)
+            | inl g ↦ each_in (λ (o : ObjectParts). IsPlacedName w o.name) w.graph o lawful.placed g
+            | inr n ↦ subst (λ (x : ObjectParts). IsPlacedName w x.name) (sym n.2) (each_in (IsPlacedName w) t.own n.0 placed n.1)
           ]));
       own_placed = tt;
       whole = λ name target reached r. elim (view_refers w t name target sv r) [
@@ -131,7 +131,7 @@ view_is_orderly w t commits lawful lt placed =
         ]
       ];
       counted = commit_counts_up w t lawful.counted lt;
-      last = each_from (λ (o : Object). o.name.generation ≡ length (objects_at (view w t) o.name.page o.name.slot)) (filter (is_unfreed w.freed) (view w t)) (λ seen m.
+      last = each_from (λ (o : ObjectParts). o.name.generation ≡ length (objects_at (view w t) o.name.page o.name.slot)) (filter (is_unfreed w.freed) (view w t)) (λ seen m.
           let a = in_filter (is_unfreed w.freed) (view w t) seen m in
           last_in_view w t seen lawful lt a.0 a.1);
       distinct = λ number. omega arith;
@@ -143,7 +143,7 @@ view_is_orderly w t commits lawful lt placed =
 
 -- ---- the other transactions
 
-pub place_away : (w : World) (t : Transaction) (page slot : ℕ) → IsLawfulTransaction w.graph w.freed (starts w) t → has_page t.pages_written page ≡ false
+pub place_away : (w : World) (t : Transaction) (page slot : ℕ) → IsLawfulTransaction w.graph w.freed t → has_page t.pages_written page ≡ false
     → objects_at (view w t) page slot ≡ objects_at w.graph page slot
 place_away w t page slot lt away =
     objects_away t (w.graph ++ map (new_object w) t.own) page slot lt.writes away
@@ -151,23 +151,23 @@ place_away w t page slot lt away =
     ∙ (ap (λ os. objects_at w.graph page slot ++ os) (none_new w t t.own page slot (all_map (IsOwn w.graph w.freed t) (λ (n : NameParts). has_page t.pages_written n.page ≡ true) t.own lt.own (λ n m own. own.page)) away)
     ∙ append-nil (objects_at w.graph page slot)))
 
-commit_keeps_own : (w : World) (t u : Transaction) (name : NameParts) → IsLawfulTransaction w.graph w.freed (starts w) t → IsApart t u → IsOwn w.graph w.freed u name → IsOwn (view w t) w.freed u name
+commit_keeps_own : (w : World) (t u : Transaction) (name : NameParts) → IsLawfulTransaction w.graph w.freed t → IsApart t u → IsOwn w.graph w.freed u name → IsOwn (view w t) w.freed u name
 commit_keeps_own w t u name lt apart own =
     let away = apart name.page (or_right (has_page u.pages_read name.page) (has_page u.pages_written name.page) own.page) in
     let e = place_away w t name.page name.slot lt away in
     record {
       page = own.page;
-      free = subst (λ os. AllByRecursion (λ (o : Object). IsTrue (has_name w.freed o.name)) os) (sym e) own.free;
-      next = own.next ∙ ap (λ (os : List Object). let n : NameParts = record { page = name.page; slot = name.slot; generation = 1 + length os } in n) (sym e);
+      free = subst (λ os. AllByRecursion (λ (o : ObjectParts). IsTrue (has_name w.freed o.name)) os) (sym e) own.free;
+      next = own.next ∙ ap (λ (os : List ObjectParts). let n : NameParts = record { page = name.page; slot = name.slot; generation = 1 + length os } in n) (sym e);
     }
 
-commit_keeps_one : (w : World) (t u : Transaction) → IsLawfulTransaction w.graph w.freed (starts w) t → IsApart t u
-    → IsLawfulTransaction w.graph w.freed (starts w) u → IsLawfulTransaction (view w t) w.freed (starts w) u
+commit_keeps_one : (w : World) (t u : Transaction) → IsLawfulTransaction w.graph w.freed t → IsApart t u
+    → IsLawfulTransaction w.graph w.freed u → IsLawfulTransaction (view w t) w.freed u
 commit_keeps_one w t u lt apart lu = record {
   own = all_map (IsOwn w.graph w.freed u) (IsOwn (view w t) w.freed u) u.own lu.own (λ n m own. commit_keeps_own w t u n lt apart own);
   one_at_each_place = lu.one_at_each_place;
   writes = lu.writes;
-  known = all_map (IsCovered w.graph (starts w) u) (IsCovered (view w t) (starts w) u) u.known lu.known (λ n m c. elim c [
+  known = all_map (IsCovered w.graph u) (IsCovered (view w t) u) u.known lu.known (λ n m c. elim c [
     | inl own ↦ inl own
     | inr p ↦ inr (p.0, p.1, p.2, commit_keeps_covered w t u p.0 p.1 n lt.writes apart p.3)
   ]);
@@ -206,7 +206,7 @@ commit_is_orderly w n lawful i is =
       counted = b.counted;
       last = b.last;
       distinct = λ number. fewer_distinct w n number lawful;
-      transactions = each_from (IsLawfulTransaction (view w t) w.freed (starts w)) (without w n) (λ u m.
+      transactions = each_from (IsLawfulTransaction (view w t) w.freed) (without w n) (λ u m.
           let a = in_without w n u m in
           commit_keeps_one w t u lt (apart_at w.transactions t u lawful.apart i a.0 (λ e. a.1 (e ∙ is))) (lawful_one w u lawful a.0));
       apart = fewer_apart w n lawful;
@@ -222,7 +222,7 @@ abort_is_orderly w n lawful = record {
   counted = lawful.counted;
   last = lawful.last;
   distinct = λ number. fewer_distinct w n number lawful;
-  transactions = each_from (IsLawfulTransaction w.graph w.freed (starts w)) (without w n) (λ u m. lawful_one w u lawful (in_without w n u m).0);
+  transactions = each_from (IsLawfulTransaction w.graph w.freed) (without w n) (λ u m. lawful_one w u lawful (in_without w n u m).0);
   apart = fewer_apart w n lawful;
   freed_there = lawful.freed_there;
 }

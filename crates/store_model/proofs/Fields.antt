@@ -4,7 +4,7 @@ use Rattle.std.specs.List.{slice_set}
 use Rattle.std.proofs.lemmas.List.{length-replicate, length-set}
 use Rattle.object_graph.specs.NameParts.{NameParts}
 use Rattle.object_graph.specs.Names.{name_eq}
-use Rattle.object_graph.specs.declared.names.Object.{Object}
+use Rattle.object_graph.specs.ObjectParts.{ObjectParts}
 use Rattle.object_graph.specs.declared.calls.Call.{Call}
 use Rattle.object_graph.specs.declared.calls.Call.TheVariants.{New, Commit, Reopen}
 use Rattle.object_graph.specs.declared.calls.Reply.{Reply}
@@ -18,29 +18,29 @@ use Rattle.store_model.specs.Lawful.{HaveFields}
 use Rattle.store_model.proofs.Changes.{graph-after_refusal, graph-with_new}
 use Rattle.store_model.proofs.Reach.{name-with_writes}
 
-cond_length : (b : Bool) (x o : Object) → length x.refs ≡ length o.refs → length (cond b x o).refs ≡ length o.refs
+cond_length : (b : Bool) (x o : ObjectParts) → length x.refs ≡ length o.refs → length (cond b x o).refs ≡ length o.refs
 cond_length true x o e = e
 cond_length false x o e = refl
 
-length-written_by : (write : Write) (o : Object) → length (written_by write o).refs ≡ length o.refs
+length-written_by : (write : Write) (o : ObjectParts) → length (written_by write o).refs ≡ length o.refs
 length-written_by (link name field target) o = cond_length (name_eq o.name name) (record o { refs = slice_set o.refs field target }) o (length-set o.refs field target)
 length-written_by (assign name value) o = cond_length (name_eq o.name name) (record o { number = value }) o refl
 
-length-with_writes : (writes : List Write) (o : Object) → length (with_writes writes o).refs ≡ length o.refs
+length-with_writes : (writes : List Write) (o : ObjectParts) → length (with_writes writes o).refs ≡ length o.refs
 length-with_writes [] o = refl
 length-with_writes (write ∷ writes) o = length-written_by write (with_writes writes o) ∙ length-with_writes writes o
 
 -- an object with the references of its page
-abbrev pub HasFields : (ℕ → ℕ) → Object → Type 0
+abbrev pub HasFields : (ℕ → ℕ) → ObjectParts → Type 0
 HasFields fields o = length o.refs ≡ fields o.name.page
 
-writes_keep : (fields : ℕ → ℕ) (writes : List Write) (o : Object) → HasFields fields o → HasFields fields (with_writes writes o)
+writes_keep : (fields : ℕ → ℕ) (writes : List Write) (o : ObjectParts) → HasFields fields o → HasFields fields (with_writes writes o)
 writes_keep fields writes o h = length-with_writes writes o ∙ h ∙ ap (λ (n : NameParts). fields n.page) (sym (name-with_writes writes o))
 
 pub view_has_fields : (w : World) (t : Transaction) → HaveFields (fields_of w) w.graph → HaveFields (fields_of w) (view w t)
 view_has_fields w t h = each_from (HasFields (fields_of w)) (view w t) (λ seen m.
     let a = in_map (with_writes t.writes) (w.graph ++ map (new_object w) t.own) seen m in
-    let o : Object = a.0 in
+    let o : ObjectParts = a.0 in
     subst (HasFields (fields_of w)) (sym a.2) (writes_keep (fields_of w) t.writes o (elim (in_append w.graph (map (new_object w) t.own) o a.1) [
       | inl there ↦ each_in (HasFields (fields_of w)) w.graph o h there
       | inr own ↦

@@ -4,7 +4,7 @@ use Rattle.std.specs.List.{flat_map}
 use Rattle.std.proofs.lemmas.Bool.{cases_lt}
 use Rattle.std.proofs.lemmas.List.{get_or_append_left, get_or-append_right, get_or-map, length-map}
 use Rattle.object_graph.specs.SlotParts.{SlotParts}
-use Rattle.object_graph.specs.declared.names.Object.{Object}
+use Rattle.object_graph.specs.ObjectParts.{ObjectParts}
 use Rattle.object_graph.specs.Slots.{below}
 use Rattle.store_model.proofs.Lists.{in_below}
 use Rattle.object_graph.proofs.Members.{In, in_append, append_left, append_right}
@@ -51,10 +51,10 @@ length-map_below f n = length-map (below n) f ∙ length_below n
 
 -- ---- the objects in an image
 
-pub in_objects_in : (page slot : ℕ) (s : SlotParts) (o : Object) → In o (objects_in page slot s) → (s.in_use ≡ true) × (o ≡ object_in page slot s)
+pub in_objects_in : (page slot : ℕ) (s : SlotParts) (o : ObjectParts) → In o (objects_in page slot s) → (s.in_use ≡ true) × (o ≡ object_in page slot s)
 in_objects_in page slot s o m = by_use page slot s o s.in_use refl m
   where
-    by_use : (page slot : ℕ) (s : SlotParts) (o : Object) (b : Bool) → s.in_use ≡ b → In o (cond b (object_in page slot s ∷ []) []) → (s.in_use ≡ true) × (o ≡ object_in page slot s)
+    by_use : (page slot : ℕ) (s : SlotParts) (o : ObjectParts) (b : Bool) → s.in_use ≡ b → In o (cond b (object_in page slot s ∷ []) []) → (s.in_use ≡ true) × (o ≡ object_in page slot s)
     by_use page slot s o true e m = elim m [ inl q ↦ (e, q) | inr z ↦ absurd z ]
     by_use page slot s o false e m = absurd m
 
@@ -62,13 +62,13 @@ pub objects_in_in : (page slot : ℕ) (s : SlotParts) → s.in_use ≡ true → 
 objects_in_in page slot s e = subst (λ b. In (object_in page slot s) (cond b (object_in page slot s ∷ []) [])) (sym e) (inl refl)
 
 -- an object in an image is that of a slot
-pub record IsInSlot (page : ℕ) (image : List SlotParts) (o : Object) : Type 0 where
+pub record IsInSlot (page : ℕ) (image : List SlotParts) (o : ObjectParts) : Type 0 where
   pub slot : ℕ
   pub within : slot < length image
   pub in_use : (get_or image slot no_slot).in_use ≡ true
   pub is : o ≡ object_in page slot (get_or image slot no_slot)
 
-pub in_objects_of : (page : ℕ) (image : List SlotParts) (o : Object) → In o (objects_of page image) → IsInSlot page image o
+pub in_objects_of : (page : ℕ) (image : List SlotParts) (o : ObjectParts) → In o (objects_of page image) → IsInSlot page image o
 in_objects_of page image o m =
     let a = in_flat (λ (slot : ℕ). objects_in page slot (get_or image slot no_slot)) (below (length image)) o m in
     let b = in_objects_in page a.0 (get_or image a.0 no_slot) o a.2 in

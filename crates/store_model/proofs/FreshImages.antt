@@ -5,9 +5,8 @@ use Rattle.std.proofs.lemmas.Bool.{cases_Bool, and_parts, eqb-true}
 use Rattle.object_graph.specs.NameParts.{NameParts}
 use Rattle.object_graph.specs.SlotParts.{SlotParts}
 use Rattle.object_graph.specs.Names.{root_name}
-use Rattle.object_graph.specs.declared.names.Object.{Object}
+use Rattle.object_graph.specs.ObjectParts.{ObjectParts}
 use Rattle.object_graph.specs.Graphs.{is_at, fresh_graph}
-use Rattle.store_model.specs.Limits.{most_open}
 use Rattle.store_model.specs.Worlds.{World, no_doubt, fields_of, is_unfreed, fresh_world}
 use Rattle.store_model.specs.Images.{slot_with, shown, all_shown}
 use Rattle.store_model.specs.FromImages.{slot_in, of_places, freed_in, all_objects_in, bare_world, world_of}
@@ -24,7 +23,7 @@ root_or_none page slot off = elim (cases_Bool (is_at page slot root_name)) [
 
 abbrev slot_where : ℕ → Bool → SlotParts
 slot_where fields here =
-    let objects : List Object = cond here fresh_graph [] in
+    let objects : List ObjectParts = cond here fresh_graph [] in
     slot_with fields (filter (is_unfreed []) objects) (length objects)
 
 module _ (pages : ℕ) where
@@ -55,9 +54,9 @@ module _ (pages : ℕ) where
     root_slot : slot_in images 0 0 ≡ slot_where (fields_of w 0) true
     root_slot = slot_is 0 0 first_page first_slot
 
-    objects_are : of_places (all_objects_in (bare_world most_open 0 (length images))) images ≡ fresh_graph
+    objects_are : of_places (all_objects_in (bare_world 0 (length images))) images ≡ fresh_graph
     objects_are =
-        let bare : World = bare_world most_open 0 (length images) in
+        let bare : World = bare_world 0 (length images) in
         places_one (all_objects_in bare) images 0 0 first_page first_slot (λ page slot p s off. ap (all_objects_in bare page slot) (empty_slot page slot p s off))
         ∙ ap (all_objects_in bare 0 0) root_slot
 
@@ -66,10 +65,9 @@ module _ (pages : ℕ) where
         places_one freed_in images 0 0 first_page first_slot (λ page slot p s off. ap (freed_in page slot) (empty_slot page slot p s off))
         ∙ ap (freed_in 0 0) root_slot
 
-    abbrev made : ℕ → List Object → List NameParts → World
+    abbrev made : ℕ → List ObjectParts → List NameParts → World
     made count graph freed = record {
       pages = count;
-      open_limit = most_open;
       graph = graph;
       commits = 0;
       freed = freed;
@@ -80,8 +78,8 @@ module _ (pages : ℕ) where
       doubt = no_doubt;
     }
 
-    pub fresh_opens : world_of most_open 0 images ≡ w
+    pub fresh_opens : world_of 0 images ≡ w
     fresh_opens =
-        ap (λ (n : ℕ). made n (of_places (all_objects_in (bare_world most_open 0 (length images))) images) (of_places freed_in images)) count
-        ∙ ap (λ (graph : List Object). made pages graph (of_places freed_in images)) objects_are
+        ap (λ (n : ℕ). made n (of_places (all_objects_in (bare_world 0 (length images))) images) (of_places freed_in images)) count
+        ∙ ap (λ (graph : List ObjectParts). made pages graph (of_places freed_in images)) objects_are
         ∙ ap (made pages fresh_graph) freed_are

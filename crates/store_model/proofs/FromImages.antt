@@ -6,7 +6,7 @@ use Rattle.std.proofs.lemmas.List.{get_or_past, length-map, map-append, ext_get_
 use Rattle.std.proofs.lemmas.List.Elements.{filter-append}
 use Rattle.object_graph.specs.NameParts.{NameParts}
 use Rattle.object_graph.specs.SlotParts.{SlotParts}
-use Rattle.object_graph.specs.declared.names.Object.{Object}
+use Rattle.object_graph.specs.ObjectParts.{ObjectParts}
 use Rattle.object_graph.specs.Graphs.{has_name, is_at, objects_at}
 use Rattle.object_graph.specs.Slots.{below}
 use Rattle.object_graph.proofs.Members.{In, in_append, in_map}
@@ -38,18 +38,18 @@ freed_is page slot s name m =
     let g : name.generation ≡ suc a.0 = ap (λ (n : NameParts). n.generation) a.2 in
     record { page_is = ap (λ (n : NameParts). n.page) a.2; slot_is = ap (λ (n : NameParts). n.slot) a.2; low = omega (arith, b, g) }
 
-pub object_at : (page slot : ℕ) (s : SlotParts) (o : Object) → In o (objects_in page slot s) → is_at page slot o.name ≡ true
+pub object_at : (page slot : ℕ) (s : SlotParts) (o : ObjectParts) → In o (objects_in page slot s) → is_at page slot o.name ≡ true
 object_at page slot s o m =
     let a = in_objects_in page slot s o m in
-    at_place page slot o.name (ap (λ (x : Object). x.name.page) a.1) (ap (λ (x : Object). x.name.slot) a.1)
+    at_place page slot o.name (ap (λ (x : ObjectParts). x.name.page) a.1) (ap (λ (x : ObjectParts). x.name.slot) a.1)
 
-pub placed_at : (w : World) (page slot : ℕ) (s : SlotParts) (o : Object) → In o (all_objects_in w page slot s) → is_at page slot o.name ≡ true
+pub placed_at : (w : World) (page slot : ℕ) (s : SlotParts) (o : ObjectParts) → In o (all_objects_in w page slot s) → is_at page slot o.name ≡ true
 placed_at w page slot s o m = elim (in_append (map (new_object w) (freed_in page slot s)) (objects_in page slot s) o m) [
   | inr here ↦ object_at page slot s o here
   | inl gone ↦
       let a = in_map (new_object w) (freed_in page slot s) o gone in
       let f = freed_is page slot s a.0 a.1 in
-      let name : o.name ≡ a.0 = ap (λ (x : Object). x.name) a.2 in
+      let name : o.name ≡ a.0 = ap (λ (x : ObjectParts). x.name) a.2 in
       at_place page slot o.name (ap (λ (n : NameParts). n.page) name ∙ f.page_is) (ap (λ (n : NameParts). n.slot) name ∙ f.slot_is)
 ]
 
@@ -64,7 +64,7 @@ last_one (suc n) some =
     let less : suc n - 1 ≡ n = omega arith in
     ap (λ (k : ℕ). map suc (below k) ++ suc n ∷ []) less ∙ sym (map-append suc (below n) (n ∷ []))
 
-abbrev all_objects_with : World → ℕ → ℕ → SlotParts → Bool → List Object
+abbrev all_objects_with : World → ℕ → ℕ → SlotParts → Bool → List ObjectParts
 all_objects_with w page slot s used =
     map (new_object w) (map (freed_name page slot) (below (cond used (s.generation - 1) s.generation))) ++ cond used (object_in page slot s ∷ []) []
 
@@ -97,7 +97,7 @@ slot_again fields page slot s right = by_use s.in_use refl
 -- ---- the graph and the freed names of images
 
 module _ (w : World) (images : List (List SlotParts)) (right : AreImagesOf (slots_of w) (fields_of w) images) where
-  abbrev graph : List Object
+  abbrev graph : List ObjectParts
   graph = of_places (all_objects_in w) images
 
   abbrev freed : List NameParts
@@ -129,44 +129,44 @@ module _ (w : World) (images : List (List SlotParts)) (right : AreImagesOf (slot
       ∙ ap (λ (n : ℕ). map suc (below n)) (sym (names_built page slot))
 
   -- an object in use isn't freed
-  pub used_unfreed : (page slot : ℕ) (o : Object) → In o (objects_in page slot (slot_in images page slot)) → has_name freed o.name ≡ false
+  pub used_unfreed : (page slot : ℕ) (o : ObjectParts) → In o (objects_in page slot (slot_in images page slot)) → has_name freed o.name ≡ false
   used_unfreed page slot o m = elim (cases_Bool (has_name freed o.name)) [
     | inr e ↦ e
     | inl e ↦
         let a = in_objects_in page slot (slot_in images page slot) o m in
         let b = in_places freed_in images o.name (has_name_in freed o.name e) in
         let f = freed_is b.page b.slot (slot_in images b.page b.slot) o.name b.there in
-        let p : b.page ≡ page = sym f.page_is ∙ ap (λ (x : Object). x.name.page) a.1 in
-        let s : b.slot ≡ slot = sym f.slot_is ∙ ap (λ (x : Object). x.name.slot) a.1 in
+        let p : b.page ≡ page = sym f.page_is ∙ ap (λ (x : ObjectParts). x.name.page) a.1 in
+        let s : b.slot ≡ slot = sym f.slot_is ∙ ap (λ (x : ObjectParts). x.name.slot) a.1 in
         let same : slot_in images b.page b.slot ≡ slot_in images page slot = ap (λ (k : ℕ). slot_in images k b.slot) p ∙ ap (slot_in images page) s in
         let count : freed_count (slot_in images b.page b.slot) ≡ (slot_in images page slot).generation - 1 =
         ap freed_count same ∙ ap (λ (u : Bool). cond u ((slot_in images page slot).generation - 1) (slot_in images page slot).generation) a.0 in
-        let g : o.name.generation ≡ (slot_in images page slot).generation = ap (λ (x : Object). x.name.generation) a.1 in
+        let g : o.name.generation ≡ (slot_in images page slot).generation = ap (λ (x : ObjectParts). x.name.generation) a.1 in
         absurd (omega (arith, f.low, count, g, slot_named page slot a.0))
   ]
 
-  freed_gone : (page slot : ℕ) (o : Object) → In o (map (new_object w) (freed_in page slot (slot_in images page slot))) → is_unfreed freed o ≡ false
+  freed_gone : (page slot : ℕ) (o : ObjectParts) → In o (map (new_object w) (freed_in page slot (slot_in images page slot))) → is_unfreed freed o ≡ false
   freed_gone page slot o m =
       let a = in_map (new_object w) (freed_in page slot (slot_in images page slot)) o m in
       let f : In a.0 freed = place_gives freed_in (λ page slot. refl) images page slot a.0 a.1 in
-      ap (λ (x : Object). not (has_name freed x.name)) a.2 ∙ ap not (in_has_name freed a.0 f)
+      ap (λ (x : ObjectParts). not (has_name freed x.name)) a.2 ∙ ap not (in_has_name freed a.0 f)
 
   -- of a place the object in use is unfreed
   pub unfreed_built : (page slot : ℕ) → filter (is_unfreed freed) (objects_at graph page slot) ≡ objects_in page slot (slot_in images page slot)
   unfreed_built page slot =
-      let gone : List Object = map (new_object w) (freed_in page slot (slot_in images page slot)) in
-      let here : List Object = objects_in page slot (slot_in images page slot) in
+      let gone : List ObjectParts = map (new_object w) (freed_in page slot (slot_in images page slot)) in
+      let here : List ObjectParts = objects_in page slot (slot_in images page slot) in
       ap (filter (is_unfreed freed)) (objects_built page slot)
       ∙ filter-append (is_unfreed freed) gone here
-      ∙ ap (λ (l : List Object). l ++ filter (is_unfreed freed) here) (filter_nothing (is_unfreed freed) gone (freed_gone page slot))
+      ∙ ap (λ (l : List ObjectParts). l ++ filter (is_unfreed freed) here) (filter_nothing (is_unfreed freed) gone (freed_gone page slot))
       ∙ filter_all (is_unfreed freed) here (λ o m. ap not (used_unfreed page slot o m))
 
   -- so the unfreed objects are those in use
   pub unfreed_are_used : filter (is_unfreed freed) graph ≡ objects_in_use images
   unfreed_are_used =
-      let test : Object → Bool = is_unfreed freed in
-      let all : ℕ → ℕ → List Object = λ page slot. all_objects_in w page slot (slot_in images page slot) in
-      let here : ℕ → ℕ → List Object = λ page slot. objects_in page slot (slot_in images page slot) in
+      let test : ObjectParts → Bool = is_unfreed freed in
+      let all : ℕ → ℕ → List ObjectParts = λ page slot. all_objects_in w page slot (slot_in images page slot) in
+      let here : ℕ → ℕ → List ObjectParts = λ page slot. objects_in page slot (slot_in images page slot) in
       let slots : ℕ → List ℕ = λ page. below (length (get_or images page [])) in
       filter_flat test (λ (page : ℕ). flat_map (all page) (slots page)) (below (length images))
       ∙ flat_same (λ (page : ℕ). filter test (flat_map (all page) (slots page))) (λ (page : ℕ). flat_map (here page) (slots page)) (below (length images)) (λ page.
@@ -174,18 +174,18 @@ module _ (w : World) (images : List (List SlotParts)) (right : AreImagesOf (slot
       ∙ flat_same (λ (slot : ℕ). filter test (all page slot)) (here page) (slots page) (λ slot. sym (ap (filter test) (objects_built page slot)) ∙ unfreed_built page slot))
 
   -- a freed object is as it was made
-  pub freed_as_made : (o : Object) → In o graph → has_name freed o.name ≡ true → o ≡ new_object w o.name
+  pub freed_as_made : (o : ObjectParts) → In o graph → has_name freed o.name ≡ true → o ≡ new_object w o.name
   freed_as_made o m is =
       let p = in_places (all_objects_in w) images o m in
       let s : SlotParts = slot_in images p.page p.slot in
       elim (in_append (map (new_object w) (freed_in p.page p.slot s)) (objects_in p.page p.slot s) o p.there) [
-        | inl gone ↦ let a = in_map (new_object w) (freed_in p.page p.slot s) o gone in a.2 ∙ ap (λ (x : Object). new_object w x.name) (sym a.2)
+        | inl gone ↦ let a = in_map (new_object w) (freed_in p.page p.slot s) o gone in a.2 ∙ ap (λ (x : ObjectParts). new_object w x.name) (sym a.2)
         | inr here ↦ let f = used_unfreed p.page p.slot o here in absurd cc
       ]
 
   pub slot_built : (page slot : ℕ) → page < length images → slot < slots_of w page → shown_slot (fields_of w page) graph freed page slot ≡ slot_in images page slot
   slot_built page slot p s =
-      ap (λ (l : List Object). slot_with (fields_of w page) l (length (objects_at graph page slot))) (unfreed_built page slot)
+      ap (λ (l : List ObjectParts). slot_with (fields_of w page) l (length (objects_at graph page slot))) (unfreed_built page slot)
       ∙ ap (slot_with (fields_of w page) (objects_in page slot (slot_in images page slot))) (names_built page slot)
       ∙ slot_again (fields_of w page) page slot (slot_in images page slot) (right.slots page slot p s)
 

@@ -7,7 +7,7 @@ use Rattle.std.proofs.lemmas.Bool.{cases_Bool, and_parts, and_from, eq-eqb, eqb-
 use Rattle.object_graph.specs.NameParts.{NameParts}
 use Rattle.object_graph.specs.SlotParts.{SlotParts}
 use Rattle.object_graph.specs.Slots.{below}
-use Rattle.object_graph.specs.declared.names.Object.{Object}
+use Rattle.object_graph.specs.ObjectParts.{ObjectParts}
 use Rattle.object_graph.specs.Graphs.{has_name, has_object, is_at, objects_at}
 use Rattle.object_graph.proofs.Members.{In, each_in, in_filter, filter_in, in_map, map_in}
 use Rattle.object_graph.proofs.Paths.{name_of, name_eq_same, has_name_in, has_object_in, in_has_object}
@@ -32,7 +32,7 @@ used_named images name h =
     let a = has_object_in (objects_in_use images) name h in
     let p = in_places objects_in images a.0 a.1 in
     let b = in_objects_in p.page p.slot (slot_in images p.page p.slot) a.0 p.there in
-    let named : name ≡ name_of p.page p.slot (slot_in images p.page p.slot).generation = sym a.2 ∙ ap (λ (o : Object). o.name) b.1 in
+    let named : name ≡ name_of p.page p.slot (slot_in images p.page p.slot).generation = sym a.2 ∙ ap (λ (o : ObjectParts). o.name) b.1 in
     subst (λ (n : NameParts). is_name_in_use images n ≡ true) (sym named)
     (and_from (slot_in images p.page p.slot).in_use ((slot_in images p.page p.slot).generation == (slot_in images p.page p.slot).generation) b.0
     (eq-eqb (slot_in images p.page p.slot).generation (slot_in images p.page p.slot).generation refl))
@@ -41,7 +41,7 @@ pub named_used : (images : List (List SlotParts)) (name : NameParts) → is_name
 named_used images name h =
     let s : SlotParts = slot_in images name.page name.slot in
     let a = and_parts s.in_use (s.generation == name.generation) h in
-    let o : Object = object_in name.page name.slot s in
+    let o : ObjectParts = object_in name.page name.slot s in
     let m : In o (objects_in_use images) = place_gives objects_in (λ page slot. refl) images name.page name.slot o (objects_in_in name.page name.slot s a.0) in
     subst (λ (n : NameParts). has_object (objects_in_use images) n ≡ true) (ap (name_of name.page name.slot) (eqb-true s.generation name.generation a.1)) (in_has_object (objects_in_use images) o m)
 
@@ -62,16 +62,16 @@ same_name a b at generation =
 
 -- ---- the names that were given
 
-module _ (graph : List Object) (images : List (List SlotParts)) (counts : CountsUp graph) (stored : (page slot : ℕ) → (slot_in images page slot).generation ≡ length (objects_at graph page slot)) where
+module _ (graph : List ObjectParts) (images : List (List SlotParts)) (counts : CountsUp graph) (stored : (page slot : ℕ) → (slot_in images page slot).generation ≡ length (objects_at graph page slot)) where
   there_given : (name : NameParts) → has_object graph name ≡ true → was_given images name ≡ true
   there_given name h =
       let a = has_object_in graph name h in
       let g : a.0.name.generation ≡ name.generation = ap (λ (n : NameParts). n.generation) a.2 in
-      let names : List Object = objects_at graph name.page name.slot in
+      let names : List ObjectParts = objects_at graph name.page name.slot in
       let at : is_at name.page name.slot a.0.name ≡ true = subst (λ (n : NameParts). is_at name.page name.slot n ≡ true) (sym a.2) (at_place name.page name.slot name refl refl) in
       let m : In a.0.name.generation (map suc (below (length names))) =
       subst (λ (l : List ℕ). In a.0.name.generation l) (counts name.page name.slot)
-      (map_in generation_of names a.0 (filter_in (λ (o : Object). is_at name.page name.slot o.name) graph a.0 a.1 at)) in
+      (map_in generation_of names a.0 (filter_in (λ (o : ObjectParts). is_at name.page name.slot o.name) graph a.0 a.1 at)) in
       let b = in_map suc (below (length names)) a.0.name.generation m in
       let low = below_bound (length names) b.0 b.1 in
       let k : a.0.name.generation ≡ suc b.0 = b.2 in
@@ -85,13 +85,13 @@ module _ (graph : List Object) (images : List (List SlotParts)) (counts : Counts
       let a = and_parts (ltb 0 name.generation) (leb name.generation last) h in
       let some = ltb-true 0 name.generation a.0 in
       let low = leb-true name.generation last a.1 in
-      let names : List Object = objects_at graph name.page name.slot in
+      let names : List ObjectParts = objects_at graph name.page name.slot in
       let k : ℕ = name.generation - 1 in
       let g : suc k ≡ name.generation = omega (arith, some) in
       let i : In k (below (length names)) = in_below (length names) k (omega (arith, g, low, stored name.page name.slot)) in
       let m : In name.generation (map suc (below (length names))) = subst (λ (n : ℕ). In n (map suc (below (length names)))) g (map_in suc (below (length names)) k i) in
       let b = in_map generation_of names name.generation (subst (λ (l : List ℕ). In name.generation l) (sym (counts name.page name.slot)) m) in
-      let there = in_filter (λ (o : Object). is_at name.page name.slot o.name) graph b.0 b.1 in
+      let there = in_filter (λ (o : ObjectParts). is_at name.page name.slot o.name) graph b.0 b.1 in
       subst (λ (n : NameParts). has_object graph n ≡ true) (same_name b.0.name name there.1 (sym b.2)) (in_has_object graph b.0 there.0)
 
   -- the names of the graph are those that were given
@@ -100,8 +100,8 @@ module _ (graph : List Object) (images : List (List SlotParts)) (counts : Counts
 
 -- ---- the names that are freed
 
-module _ (graph : List Object) (freed : List NameParts) (images : List (List SlotParts)) (names : (name : NameParts) → has_object graph name ≡ was_given images name)
-    (there : AllByRecursion (λ name. IsTrue (has_object graph name)) freed) (used : (o : Object) → In o (filter (is_unfreed freed) graph) ↔ In o (objects_in_use images)) where
+module _ (graph : List ObjectParts) (freed : List NameParts) (images : List (List SlotParts)) (names : (name : NameParts) → has_object graph name ≡ was_given images name)
+    (there : AllByRecursion (λ name. IsTrue (has_object graph name)) freed) (used : (o : ObjectParts) → In o (filter (is_unfreed freed) graph) ↔ In o (objects_in_use images)) where
   used_unfreed_name : (name : NameParts) → is_name_in_use images name ≡ true → has_name freed name ≡ false
   used_unfreed_name name h =
       let a = has_object_in (objects_in_use images) name (named_used images name h) in

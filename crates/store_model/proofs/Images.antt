@@ -4,7 +4,7 @@ use Rattle.std.specs.List.{filter, AllByRecursion}
 use Rattle.std.proofs.lemmas.Bool.{and_parts, cases_Bool, eqb-true}
 use Rattle.std.proofs.lemmas.List.Elements.{filter-append}
 use Rattle.object_graph.specs.NameParts.{NameParts}
-use Rattle.object_graph.specs.declared.names.Object.{Object}
+use Rattle.object_graph.specs.ObjectParts.{ObjectParts}
 use Rattle.object_graph.specs.Graphs.{is_at, objects_at}
 use Rattle.store_model.specs.Worlds.{World, Transaction, view, with_writes, new_object, is_unfreed}
 use Rattle.store_model.specs.Images.{shown_slot, slot_with}
@@ -17,7 +17,7 @@ pub cond_false : {A : Type 0} (b : Bool) (x y : A) → b ≡ false → cond b x 
 cond_false b x y e = rw e refl
 
 -- writes on other pages leave the objects of a place
-pub objects_away : (t : Transaction) (graph : List Object) (page slot : ℕ) → AllByRecursion (IsKnownWrite t) t.writes
+pub objects_away : (t : Transaction) (graph : List ObjectParts) (page slot : ℕ) → AllByRecursion (IsKnownWrite t) t.writes
     → has_page t.pages_written page ≡ false → objects_at (map (with_writes t.writes) graph) page slot ≡ objects_at graph page slot
 objects_away t [] page slot known away = refl
 objects_away t (o ∷ os) page slot known away = elim (cases_Bool (is_at page slot o.name)) [
@@ -25,11 +25,11 @@ objects_away t (o ∷ os) page slot known away = elim (cases_Bool (is_at page sl
       let p = eqb-true o.name.page page (and_parts (o.name.page == page) (o.name.slot == slot) at).0 in
       let still : with_writes t.writes o ≡ o =
       writes_away t t.writes o known (subst (λ k. has_page t.pages_written k ≡ false) (sym p) away) in
-      ap (λ (x : Object). cond (is_at page slot x.name) (x ∷ objects_at (map (with_writes t.writes) os) page slot) (objects_at (map (with_writes t.writes) os) page slot)) still
+      ap (λ (x : ObjectParts). cond (is_at page slot x.name) (x ∷ objects_at (map (with_writes t.writes) os) page slot) (objects_at (map (with_writes t.writes) os) page slot)) still
       ∙ ap (λ xs. cond (is_at page slot o.name) (o ∷ xs) xs) (objects_away t os page slot known away)
   | inr off ↦
       let seen_off : is_at page slot (with_writes t.writes o).name ≡ false = subst (λ n. is_at page slot n ≡ false) (sym (name-with_writes t.writes o)) off in
-      let rest : List Object = objects_at (map (with_writes t.writes) os) page slot in
+      let rest : List ObjectParts = objects_at (map (with_writes t.writes) os) page slot in
       cond_false (is_at page slot (with_writes t.writes o).name) (with_writes t.writes o ∷ rest) rest seen_off
       ∙ (objects_away t os page slot known away
       ∙ sym (cond_false (is_at page slot o.name) (o ∷ objects_at os page slot) (objects_at os page slot) off))

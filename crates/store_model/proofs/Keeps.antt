@@ -6,7 +6,7 @@ use Rattle.std.proofs.lemmas.Bool.{and_parts, and_from, cases_Bool, eqb-true, no
 use Rattle.object_graph.specs.NameParts.{NameParts}
 use Rattle.object_graph.specs.Names.{root_name}
 use Rattle.object_graph.specs.Slots.{has_slot}
-use Rattle.object_graph.specs.declared.names.Object.{Object}
+use Rattle.object_graph.specs.ObjectParts.{ObjectParts}
 use Rattle.object_graph.specs.declared.calls.Call.{Call}
 use Rattle.object_graph.specs.declared.calls.Call.TheVariants.{New, Commit, Sweep, Reopen}
 use Rattle.object_graph.specs.declared.calls.Reply.{Reply}
@@ -91,11 +91,11 @@ was_unfreed freed after name grows h = elim (cases_Bool (has_name freed name)) [
 
 -- a name that a sweep frees
 pub in_names_in : (w : World) (page slots : ℕ) (name : NameParts) → In name (names_in w page slots)
-    → (o : Object) × In o w.graph × (is_unfreed w.freed o ≡ true) × (o.name.page ≡ page) × (has_slot slots o.name.slot ≡ true) × (name ≡ o.name)
+    → (o : ObjectParts) × In o w.graph × (is_unfreed w.freed o ≡ true) × (o.name.page ≡ page) × (has_slot slots o.name.slot ≡ true) × (name ≡ o.name)
 in_names_in w page slots name m =
-    let a = in_map (λ (o : Object). o.name) (filter (λ (o : Object). (o.name.page == page) && has_slot slots o.name.slot) (unfreed w)) name m in
-    let o : Object = a.0 in
-    let b = in_filter (λ (o : Object). (o.name.page == page) && has_slot slots o.name.slot) (unfreed w) o a.1 in
+    let a = in_map (λ (o : ObjectParts). o.name) (filter (λ (o : ObjectParts). (o.name.page == page) && has_slot slots o.name.slot) (unfreed w)) name m in
+    let o : ObjectParts = a.0 in
+    let b = in_filter (λ (o : ObjectParts). (o.name.page == page) && has_slot slots o.name.slot) (unfreed w) o a.1 in
     let c = in_filter (is_unfreed w.freed) w.graph o b.0 in
     let d = and_parts (o.name.page == page) (has_slot slots o.name.slot) b.1 in
     (o, c.0, c.1, eqb-true o.name.page page d.0, d.1, a.2)

@@ -1,27 +1,29 @@
 -- Each allowed event leaves the world lawful.
 use Rattle.store_model.proofs.Lists.{find_none_each, in_below}
-use Rattle.object_graph.specs.declared.calls.Phase.TheVariants.{Sweeping}
+use Rattle.object_graph.specs.declared.calls.Phase.TheVariants.{Copying, Closed, Sweeping}
+use Rattle.object_graph.specs.declared.calls.Phase.{Phase}
 use Rattle.std.specs.List.{find}
 use Rattle.std.proofs.Common.{◌≡◌, ◌≢◌, ℕ, suc, ◌<◌, Bool, true, false, ◌&&◌, ◌||◌, cond, List, [], ◌∷◌, map, length, replicate, Option, Some, None, refl, sym, subst, ap, ◌∙◌, ◌⊎◌, inl, inr, arith, ◌++◌, not}
-use Rattle.std.specs.Option.{is_none, is_some, option_map, MatchOption, unwrap_or}
-use Rattle.std.proofs.lemmas.Bool.{and_parts, and_from, cases_Bool, not-false}
+use Rattle.std.specs.Option.{is_none, is_some, option_map, MatchOption, IsSomeAnd, unwrap_or}
+use Rattle.std.specs.Prelude.{nat_lt}
+use Rattle.std.proofs.lemmas.Bool.{and_parts, and_from, cases_Bool, not-false, ltb-true}
 use Rattle.object_graph.specs.NameParts.{NameParts}
 use Rattle.object_graph.specs.Names.{name_eq, root_name}
-use Rattle.object_graph.specs.declared.names.Object.{Object}
+use Rattle.object_graph.specs.ObjectParts.{ObjectParts}
 use Rattle.object_graph.specs.declared.calls.Call.{Call}
 use Rattle.object_graph.specs.declared.calls.Call.TheVariants.{New, Commit, OpenCut, Copy, HandIn, Close, Mark, Sweep, EndCut, DropCut, Reopen, Begin, Get, Number, Set, Put, Abort}
 use Rattle.object_graph.specs.declared.calls.Reply.{Reply}
 use Rattle.object_graph.specs.declared.calls.Reply.TheVariants.{Refused, Freed}
 use Rattle.object_graph.specs.declared.calls.Refusal.{Refusal}
-use Rattle.object_graph.specs.declared.calls.Refusal.TheVariants.{DiskFault, Broken, NotOpen, Spent, Unswept, NoCut}
-use Rattle.object_graph.specs.Graphs.{is_at}
+use Rattle.object_graph.specs.declared.calls.Refusal.TheVariants.{DiskFault, Broken, NotOpen, NoPage, WrongPhase, AlreadySwept, Spent, Unswept, NoCut}
+use Rattle.object_graph.specs.Graphs.{object_fields, is_at}
 use Rattle.object_graph.specs.Slots.{below}
 use Rattle.store_model.specs.Worlds.{World, Opening, OpenedCut, Doubt, no_doubt, commit_in_doubt, sweep_in_doubt, Note, Event, find_transaction, fresh_world, IsLost, is_freed, slots_of}
-use Rattle.store_model.specs.Causes.{first_met, first_refusal, causes, when, broken, not_open, spent, new_name, has_page, missing, unswept, wrong_phase}
+use Rattle.store_model.specs.Causes.{first_met, first_refusal, causes, when, broken, not_open, spent, new_name, has_page, missing, unswept, wrong_phase, is_phase, no_page, already_swept}
 use Rattle.store_model.specs.Replies.{AllowsReply, Refuses, Answers, MayFree, MayFreeNow, names_in}
 use Rattle.store_model.specs.Steps.{with_new, opened, after_refusal, after_answer, after_reply, faults_in, doubt_after, next, has_swept, swept}
 use Rattle.store_model.specs.Histories.{after, IsLegal}
-use Rattle.store_model.specs.Lawful.{KeepsLost, KeepsLostOf, IsDoubtOf, IsLawful, IsOrderly, HasFreedSwept, IsPlaced}
+use Rattle.store_model.specs.Lawful.{KeepsLost, KeepsLostOf, IsDoubtOf, IsUnsweptIn, IsLawful, IsOrderly, HasFreedSwept, IsPlaced}
 use Rattle.store_model.proofs.Allowed.{first_met_none, when_none, with_page_cases}
 use Rattle.object_graph.proofs.Members.{append_left, each_in}
 use Rattle.object_graph.proofs.Paths.{has_name_in, in_has_name, has_object_in}
@@ -168,7 +170,7 @@ undoubted w (commit_in_doubt t) is h = absurd (some_broken w.broken (and_parts (
     some_broken : (o : Option ℕ) → is_some o ≡ true → option_map (λ count. Broken count) o ≡ None → ⊥
     some_broken None e h = cc
     some_broken (Some n) e h = cc
-undoubted w (sweep_in_doubt page) is h = absurd (some_broken w.broken is h)
+undoubted w (sweep_in_doubt page) is h = absurd (some_broken w.broken is.broken h)
   where
     some_broken : (o : Option ℕ) → is_some o ≡ true → option_map (λ count. Broken count) o ≡ None → ⊥
     some_broken None e h = cc
@@ -183,12 +185,17 @@ doubt-after_answer w (New t page) note reply e = doubt-with_new w t (new_name w 
 doubt-after_answer w Reopen note reply e = refl
 doubt-after_answer w _ note reply e = e
 
-doubt_stays : (w after : World) (doubt : Doubt) → after.transactions ≡ w.transactions → is_some after.broken ≡ true → IsDoubtOf w doubt → IsDoubtOf after doubt
-doubt_stays w after no_doubt same e is = tt
-doubt_stays w after (commit_in_doubt t) same e is =
+doubt_stays : (w after : World) (doubt : Doubt) → after.transactions ≡ w.transactions → after.pages ≡ w.pages → after.cut ≡ w.cut → is_some after.broken ≡ true → IsDoubtOf w doubt
+    → IsDoubtOf after doubt
+doubt_stays w after no_doubt same pages cut e is = tt
+doubt_stays w after (commit_in_doubt t) same pages cut e is =
     and_from (is_some after.broken) (is_some (find_transaction after t)) e
     (subst (λ ts. is_some (find_transaction (record w { transactions = ts }) t) ≡ true) (sym same) (and_parts (is_some w.broken) (is_some (find_transaction w t)) is).1)
-doubt_stays w after (sweep_in_doubt page) same e is = e
+doubt_stays w after (sweep_in_doubt page) same pages cut e is = record {
+  broken = e;
+  within = subst (λ (n : ℕ). page < n) (sym pages) is.within;
+  cut = subst (λ (o : Option OpenedCut). IsSomeAnd o (IsUnsweptIn page)) (sym cut) is.cut;
+}
 
 -- a commit that is answered by a disk fault is of an open transaction
 some_open : {A : Type 0} (o : Option A) → is_none o ≡ false → is_some o ≡ true
@@ -206,6 +213,14 @@ no_cause causes P h may = by_first (first_met causes) refl may
     by_first None e may = refl
     by_first (Some why) e may = absurd (h (e ∙ ap (λ (r : Refusal). Some r) (sym may)))
 
+broken_is : (o : Option ℕ) → option_map (λ count. Broken count) o ≢ Some DiskFault
+broken_is None e = cc
+broken_is (Some n) e = cc
+
+when_is : (b : Bool) (why : Refusal) → why ≢ DiskFault → when b why ≢ Some DiskFault
+when_is true why h e = h (let z : why ≡ DiskFault = cc in z)
+when_is false why h e = cc
+
 faulty_commit_is_open : (w : World) (t : ℕ) (note : Note) → Refuses w (Commit t) note DiskFault → is_some (find_transaction w t) ≡ true
 faulty_commit_is_open w t note may =
     let none : first_refusal w (Commit t) note ≡ None = no_cause (causes w (Commit t) note) _
@@ -213,20 +228,54 @@ faulty_commit_is_open w t note may =
     (other_cause (not_open w t) (spent w.commits ∷ []) (when_is (is_none (find_transaction w t)) NotOpen (λ e. cc))
     (other_cause (spent w.commits) [] (when_is _ (Spent w.commits) (λ e. cc)) (λ e. cc)))) may in
     some_open (find_transaction w t) (when_none (is_none (find_transaction w t)) _ (nones (causes w (Commit t) note) none).1.0)
-  where
-    broken_is : (o : Option ℕ) → option_map (λ count. Broken count) o ≢ Some DiskFault
-    broken_is None e = cc
-    broken_is (Some n) e = cc
 
-    when_is : (b : Bool) (why : Refusal) → why ≢ DiskFault → when b why ≢ Some DiskFault
-    when_is true why h e = h (let z : why ≡ DiskFault = cc in z)
-    when_is false why h e = cc
+-- a sweep that is answered by a disk fault is of a page that the cut had not swept
+same_phase : (p q : Phase) → is_phase p q ≡ true → p ≡ q
+same_phase Copying Copying h = refl
+same_phase Closed Closed h = refl
+same_phase Sweeping Sweeping h = refl
+same_phase Copying Closed h = cc
+same_phase Copying Sweeping h = cc
+same_phase Closed Copying h = cc
+same_phase Closed Sweeping h = cc
+same_phase Sweeping Copying h = cc
+same_phase Sweeping Closed h = cc
+
+module _ (w : World) (page : ℕ) where
+  abbrev sweep_causes : OpenedCut → List (Option Refusal)
+  sweep_causes cut = wrong_phase cut Sweeping ∷ no_page w page ∷ already_swept cut page ∷ []
+
+  abbrev causes_by : Option OpenedCut → List (Option Refusal)
+  causes_by o = unwrap_or (option_map sweep_causes o) (Some NoCut ∷ [])
+
+  never_a_fault : (o : Option OpenedCut) → first_met (causes_by o) ≢ Some DiskFault
+  never_a_fault None = λ e. cc
+  never_a_fault (Some cut) =
+      other_cause (wrong_phase cut Sweeping) (no_page w page ∷ already_swept cut page ∷ []) (when_is _ (WrongPhase cut.phase) (λ e. cc))
+      (other_cause (no_page w page) (already_swept cut page ∷ []) (when_is _ NoPage (λ e. cc))
+      (other_cause (already_swept cut page) [] (when_is _ (AlreadySwept page) (λ e. cc)) (λ e. cc)))
+
+  pub unswept_where_none : (o : Option OpenedCut) → first_met (causes_by o) ≡ None → (page < w.pages) × IsSomeAnd o (IsUnsweptIn page)
+  unswept_where_none None e = cc
+  unswept_where_none (Some cut) e =
+      let h = nones (sweep_causes cut) e in (
+        ltb-true page w.pages (not-false (nat_lt page w.pages) (when_none (not (nat_lt page w.pages)) NoPage h.1.0)),
+        record {
+          sweeping = same_phase cut.phase Sweeping (not-false (is_phase cut.phase Sweeping) (when_none (not (is_phase cut.phase Sweeping)) (WrongPhase cut.phase) h.0));
+          unswept = when_none (has_page cut.swept page) (AlreadySwept page) h.1.1.0;
+        },
+      )
+
+  faulty_sweep_has_cut : (note : Note) → Refuses w (Sweep page) note DiskFault → (page < w.pages) × IsSomeAnd w.cut (IsUnsweptIn page)
+  faulty_sweep_has_cut note may =
+      let none : first_refusal w (Sweep page) note ≡ None = no_cause (causes w (Sweep page) note) _ (other_cause (broken w) (causes_by w.cut) (broken_is w.broken) (never_a_fault w.cut)) may in
+      unswept_where_none w.cut (first_met_none (broken w) (causes_by w.cut) none).1
 
 doubt_after_fault : (w : World) (call : Call) (note : Note) → IsLawful w → Refuses w call note DiskFault
     → IsDoubtOf (record w { broken = Some (faults_in note); doubt = doubt_after w call }) (doubt_after w call)
 doubt_after_fault w (Commit t) note lawful may = faulty_commit_is_open w t note may
-doubt_after_fault w (Sweep page) note lawful may = refl
-doubt_after_fault w _ note lawful may = doubt_stays w (record w { broken = Some (faults_in note) }) w.doubt refl refl lawful.doubt
+doubt_after_fault w (Sweep page) note lawful may = let a = faulty_sweep_has_cut w page note may in record { broken = refl; within = a.0; cut = a.1 }
+doubt_after_fault w _ note lawful may = doubt_stays w (record w { broken = Some (faults_in note) }) w.doubt refl refl refl refl lawful.doubt
 
 doubt_after_refusal : (w : World) (call : Call) (note : Note) (why : Refusal) → IsLawful w → Refuses w call note why
     → IsDoubtOf (after_refusal w call note why) (after_refusal w call note why).doubt
@@ -291,10 +340,10 @@ history_is_lawful w [] lawful legal = lawful
 history_is_lawful w (e ∷ events) lawful legal =
     history_is_lawful (next w e) events (event_is_lawful w e.entry.call e.note e.entry.reply lawful legal.0.1) legal.1
 
-abbrev root_object : Object
-root_object = record { name = root_name; number = 0; refs = replicate 4 None }
+abbrev root_object : ObjectParts
+root_object = record { name = root_name; number = 0; refs = replicate object_fields None }
 
-one_counted : (b : Bool) → map (λ (o : Object). o.name.generation) (cond b (root_object ∷ []) []) ≡ map suc (below (length (cond b (root_object ∷ []) [])))
+one_counted : (b : Bool) → map (λ (o : ObjectParts). o.name.generation) (cond b (root_object ∷ []) []) ≡ map suc (below (length (cond b (root_object ∷ []) [])))
 one_counted true = refl
 one_counted false = refl
 
@@ -344,6 +393,6 @@ ended_has_freed w cut note name lawful is may lost = by_cut w.cut is may lawful.
         let here : IsLost c.opening name = subst (λ (k : OpenedCut). IsLost k.opening name) same lost in
         let causes_met = nones (broken w ∷ wrong_phase c Sweeping ∷ unswept w c ∷ []) h in
         let there = has_object_in w.graph name (k.there name here.old) in
-        let placed = each_in (λ (o : Object). IsPlaced w.pages (slots_of w) o.name) w.graph there.0 lawful.orderly.placed there.1 in
+        let placed = each_in (λ (o : ObjectParts). IsPlaced w.pages (slots_of w) o.name) w.graph there.0 lawful.orderly.placed there.1 in
         let low : name.page < w.pages = subst (λ (n : NameParts). n.page < w.pages) there.2 placed.0 in
         s name here (all_swept w c name.page causes_met.1.1.0 low)

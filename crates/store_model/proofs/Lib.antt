@@ -33,3 +33,8 @@ pub mod Spelled
 pub mod CallTexts
 pub mod RefusalTexts
 pub mod ReplyTexts
+pub mod KeptOpenings
+pub mod FoundStates
+pub mod FaultCounts
+pub mod ProperNames
+pub mod FreedTexts

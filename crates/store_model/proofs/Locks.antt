@@ -4,7 +4,7 @@ use Rattle.std.specs.List.{list_any, AllByRecursion, slice_set}
 use Rattle.std.proofs.lemmas.Bool.{and_parts, cases_Bool}
 use Rattle.object_graph.specs.NameParts.{NameParts}
 use Rattle.object_graph.specs.Names.{name_eq}
-use Rattle.object_graph.specs.declared.names.Object.{Object}
+use Rattle.object_graph.specs.ObjectParts.{ObjectParts}
 use Rattle.object_graph.specs.Graphs.{has_object, has_name, is_to, refers}
 use Rattle.store_model.specs.Worlds.{World, Transaction, Write, link, assign, view, with_writes, written_by, new_object}
 use Rattle.store_model.specs.Causes.{has_page}
@@ -14,7 +14,7 @@ use Rattle.object_graph.proofs.Paths.{name_eq_same, name_eq_refl, has_object_in}
 use Rattle.store_model.proofs.Reach.{name-with_writes}
 
 -- each write is to an object on a page that the transaction wrote
-write_page : (t : Transaction) (write : Write) (o : Object) → IsKnownWrite t write → has_page t.pages_written o.name.page ≡ false → written_by write o ≡ o
+write_page : (t : Transaction) (write : Write) (o : ObjectParts) → IsKnownWrite t write → has_page t.pages_written o.name.page ≡ false → written_by write o ≡ o
 write_page t (link name field None) o known away =
     let k = and_parts (has_name t.known name) (has_page t.pages_written name.page) known in
     elim (cases_Bool (name_eq o.name name)) [
@@ -38,20 +38,20 @@ write_page t (assign name value) o known away =
       | inr e ↦ ap (λ b. cond b (record o { number = value }) o) e
     ]
 
-pub writes_away : (t : Transaction) (writes : List Write) (o : Object) → AllByRecursion (IsKnownWrite t) writes
+pub writes_away : (t : Transaction) (writes : List Write) (o : ObjectParts) → AllByRecursion (IsKnownWrite t) writes
     → has_page t.pages_written o.name.page ≡ false → with_writes writes o ≡ o
 writes_away t [] o known away = refl
 writes_away t (write ∷ writes) o known away =
     ap (written_by write) (writes_away t writes o known.1 away) ∙ write_page t write o known.0 away
 
 -- an object of the graph is in the view
-seen_in_view : (w : World) (t : Transaction) (o : Object) → In o w.graph → In (with_writes t.writes o) (view w t)
+seen_in_view : (w : World) (t : Transaction) (o : ObjectParts) → In o w.graph → In (with_writes t.writes o) (view w t)
 seen_in_view w t o m = map_in (with_writes t.writes) (w.graph ++ map (new_object w) t.own) o (append_left w.graph (map (new_object w) t.own) o m)
 
 pub name_in_view : (w : World) (t : Transaction) (name : NameParts) → has_object w.graph name ≡ true → has_object (view w t) name ≡ true
 name_in_view w t name h =
     let a = has_object_in w.graph name h in
-    let o : Object = a.0 in
+    let o : ObjectParts = a.0 in
     in_any (λ p. name_eq p.name name) (view w t) (with_writes t.writes o) (seen_in_view w t o a.1)
     (subst (λ n. name_eq n name ≡ true) (sym (name-with_writes t.writes o ∙ a.2)) (name_eq_refl name))
 
@@ -60,7 +60,7 @@ pub reference_stays : (w : World) (t : Transaction) (first target : NameParts) �
     → has_page t.pages_written first.page ≡ false → refers w.graph first target ≡ true → refers (view w t) first target ≡ true
 reference_stays w t first target known away r =
     let a = any_in (λ o. name_eq o.name first && list_any (is_to target) o.refs) w.graph r in
-    let o : Object = a.0 in
+    let o : ObjectParts = a.0 in
     let b = and_parts (name_eq o.name first) (list_any (is_to target) o.refs) a.2 in
     let same = name_eq_same o.name first b.0 in
     let there = seen_in_view w t o a.1 in

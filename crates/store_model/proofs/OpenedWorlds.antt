@@ -7,7 +7,7 @@ use Rattle.std.proofs.lemmas.List.{length-replicate}
 use Rattle.object_graph.specs.NameParts.{NameParts}
 use Rattle.object_graph.specs.SlotParts.{SlotParts}
 use Rattle.object_graph.specs.Names.{root_name, name_eq}
-use Rattle.object_graph.specs.declared.names.Object.{Object}
+use Rattle.object_graph.specs.ObjectParts.{ObjectParts}
 use Rattle.object_graph.specs.Graphs.{has_name, has_object, is_at, is_to, refers, objects_at, IsPath, IsReachedFrom}
 use Rattle.object_graph.proofs.Members.{In, any_in, in_any, each_in, each_from, in_append, append_left, append_right, in_map, map_in, in_filter, filter_in}
 use Rattle.object_graph.proofs.Paths.{has_name_in, in_has_name, has_object_in, in_has_object, is_to_same, reached_more}
@@ -26,17 +26,17 @@ use Rattle.store_model.proofs.Reach.{none_only}
 -- ---- the graph of images
 
 module _ (w : World) (images : List (List SlotParts)) (right : AreImagesOf (slots_of w) (fields_of w) images) where
-  abbrev graph : List Object
+  abbrev graph : List ObjectParts
   graph = of_places (all_objects_in w) images
 
   abbrev freed : List NameParts
   freed = of_places freed_in images
 
-  abbrev used : List Object
+  abbrev used : List ObjectParts
   used = objects_in_use images
 
   pub names_placed : AllByRecursion (λ o. IsPlaced (length images) (slots_of w) o.name) graph
-  names_placed = each_from (λ (o : Object). IsPlaced (length images) (slots_of w) o.name) graph (λ o m.
+  names_placed = each_from (λ (o : ObjectParts). IsPlaced (length images) (slots_of w) o.name) graph (λ o m.
       let p = in_places (all_objects_in w) images o m in
       let at = and_parts (o.name.page == p.page) (o.name.slot == p.slot) (placed_at w p.page p.slot (slot_in images p.page p.slot) o p.there) in
       let page : p.page ≡ o.name.page = sym (eqb-true o.name.page p.page at.0) in
@@ -49,10 +49,10 @@ module _ (w : World) (images : List (List SlotParts)) (right : AreImagesOf (slot
       let a = in_filter (is_unfreed freed) graph o m in
       let page : ℕ = o.name.page in
       let slot : ℕ = o.name.slot in
-      let there : In o (objects_at graph page slot) = filter_in (λ (x : Object). is_at page slot x.name) graph o a.0 (at_place page slot o.name refl refl) in
+      let there : In o (objects_at graph page slot) = filter_in (λ (x : ObjectParts). is_at page slot x.name) graph o a.0 (at_place page slot o.name refl refl) in
       let here : In o (objects_in page slot (slot_in images page slot)) =
-      subst (λ (l : List Object). In o l) (unfreed_built w images right page slot) (filter_in (is_unfreed freed) (objects_at graph page slot) o there a.1) in
-      ap (λ (x : Object). x.name.generation) (in_objects_in page slot (slot_in images page slot) o here).1 ∙ sym (names_built w images right page slot))
+      subst (λ (l : List ObjectParts). In o l) (unfreed_built w images right page slot) (filter_in (is_unfreed freed) (objects_at graph page slot) o there a.1) in
+      ap (λ (x : ObjectParts). x.name.generation) (in_objects_in page slot (slot_in images page slot) o here).1 ∙ sym (names_built w images right page slot))
 
   pub freed_are_there : AllByRecursion (λ name. IsTrue (has_object graph name)) freed
   freed_are_there = each_from (λ (name : NameParts). IsTrue (has_object graph name)) freed (λ name m.
@@ -77,7 +77,7 @@ module _ (w : World) (images : List (List SlotParts)) (right : AreImagesOf (slot
   pub named_placed : (name : NameParts) → is_name_in_use images name ≡ true → IsPlaced (length images) (slots_of w) name
   named_placed name h =
       let a = has_object_in graph name (used_is_unfreed name (named_used images name h)).0 in
-      subst (IsPlaced (length images) (slots_of w)) a.2 (each_in (λ (o : Object). IsPlaced (length images) (slots_of w) o.name) graph a.0 names_placed a.1)
+      subst (IsPlaced (length images) (slots_of w)) a.2 (each_in (λ (o : ObjectParts). IsPlaced (length images) (slots_of w) o.name) graph a.0 names_placed a.1)
 
   -- the names of the graph are those that were given, and the freed ones those that no object in use has
   pub there_are_given : (name : NameParts) → has_object graph name ≡ was_given images name
@@ -85,14 +85,14 @@ module _ (w : World) (images : List (List SlotParts)) (right : AreImagesOf (slot
 
   pub freed_are_unused : (name : NameParts) → has_name freed name ≡ (was_given images name && not (is_name_in_use images name))
   freed_are_unused = freed_given graph freed images (λ name. there_are_given name) freed_are_there (λ o. (
-    λ m. subst (λ (l : List Object). In o l) (unfreed_are_used w images right) m,
-    λ m. subst (λ (l : List Object). In o l) (sym (unfreed_are_used w images right)) m,
+    λ m. subst (λ (l : List ObjectParts). In o l) (unfreed_are_used w images right) m,
+    λ m. subst (λ (l : List ObjectParts). In o l) (sym (unfreed_are_used w images right)) m,
   ))
 
   -- a freed object refers to nothing
   pub refers_used : (from to : NameParts) → refers graph from to ≡ true → refers used from to ≡ true
   refers_used from to h =
-      let test : Object → Bool = λ o. name_eq o.name from && list_any (is_to to) o.refs in
+      let test : ObjectParts → Bool = λ o. name_eq o.name from && list_any (is_to to) o.refs in
       let a = any_in test graph h in
       let p = in_places (all_objects_in w) images a.0 a.1 in
       let s : SlotParts = slot_in images p.page p.slot in
@@ -102,7 +102,7 @@ module _ (w : World) (images : List (List SlotParts)) (right : AreImagesOf (slot
             let b = in_map (new_object w) (freed_in p.page p.slot s) a.0 gone in
             let ref = any_in (is_to to) a.0.refs (and_parts (name_eq a.0.name from) (list_any (is_to to) a.0.refs) a.2).1 in
             let some : In (Some to) a.0.refs = subst (λ r. In r a.0.refs) (is_to_same to ref.0 ref.2) ref.1 in
-            let z : In (Some to) (new_object w b.0).refs = subst (λ (o : Object). In (Some to) o.refs) b.2 some in
+            let z : In (Some to) (new_object w b.0).refs = subst (λ (o : ObjectParts). In (Some to) o.refs) b.2 some in
             absurd (none_only (fields_of w b.0.page) to z)
       ]
 
@@ -153,38 +153,38 @@ module _ (w : World) (images : List (List SlotParts)) (right : AreImagesOf (slot
 
 -- ---- the world
 
-pub used_are_placed : (images : List (List SlotParts)) (name : NameParts) → AreImages images → is_name_in_use images name ≡ true → IsPlaced (length images) (slots_of (world_of 0 0 images)) name
-used_are_placed images name right h = named_placed (bare_world 0 0 (length images)) images right name h
+pub used_are_placed : (images : List (List SlotParts)) (name : NameParts) → AreImages images → is_name_in_use images name ≡ true → IsPlaced (length images) (slots_of (world_of 0 images)) name
+used_are_placed images name right h = named_placed (bare_world 0 (length images)) images right name h
 
-pub opened_has_fields : (open_limit commits : ℕ) (images : List (List SlotParts)) → AreImages images → HaveFields (fields_of (world_of open_limit commits images)) (world_of open_limit commits images).graph
-opened_has_fields open_limit commits images right = built_has_fields (bare_world open_limit commits (length images)) images right
+pub opened_has_fields : (commits : ℕ) (images : List (List SlotParts)) → AreImages images → HaveFields (fields_of (world_of commits images)) (world_of commits images).graph
+opened_has_fields commits images right = built_has_fields (bare_world commits (length images)) images right
 
-pub opened_shows : (open_limit commits : ℕ) (images : List (List SlotParts)) → AreImages images → all_shown (world_of open_limit commits images) ≡ images
-opened_shows open_limit commits images right = images_built (bare_world open_limit commits (length images)) images right
+pub opened_shows : (commits : ℕ) (images : List (List SlotParts)) → AreImages images → all_shown (world_of commits images) ≡ images
+opened_shows commits images right = images_built (bare_world commits (length images)) images right
 
-pub opened_shows_page : (open_limit commits page : ℕ) (images : List (List SlotParts)) → AreImages images → page < length images → shown (world_of open_limit commits images) page ≡ get_or images page []
-opened_shows_page open_limit commits page images right within = page_built (bare_world open_limit commits (length images)) images right page within
+pub opened_shows_page : (commits page : ℕ) (images : List (List SlotParts)) → AreImages images → page < length images → shown (world_of commits images) page ≡ get_or images page []
+opened_shows_page commits page images right within = page_built (bare_world commits (length images)) images right page within
 
 -- what the opened world has of these images
-module _ (open_limit commits : ℕ) (images : List (List SlotParts)) (right : AreImages images) where
+module _ (commits : ℕ) (images : List (List SlotParts)) (right : AreImages images) where
   abbrev bare : World
-  bare = bare_world open_limit commits (length images)
+  bare = bare_world commits (length images)
 
-  pub opened_unfreed : unfreed (world_of open_limit commits images) ≡ objects_in_use images
+  pub opened_unfreed : unfreed (world_of commits images) ≡ objects_in_use images
   opened_unfreed = unfreed_are_used bare images right
 
-  pub opened_names : (name : NameParts) → has_object (world_of open_limit commits images).graph name ≡ was_given images name
+  pub opened_names : (name : NameParts) → has_object (world_of commits images).graph name ≡ was_given images name
   opened_names = there_are_given bare images right
 
-  pub opened_freed : (name : NameParts) → is_freed (world_of open_limit commits images) name ≡ (was_given images name && not (is_name_in_use images name))
+  pub opened_freed : (name : NameParts) → is_freed (world_of commits images) name ≡ (was_given images name && not (is_name_in_use images name))
   opened_freed = freed_are_unused bare images right
 
-  pub opened_blank : (o : Object) → In o (world_of open_limit commits images).graph → is_freed (world_of open_limit commits images) o.name ≡ true → o ≡ new_object (world_of open_limit commits images) o.name
+  pub opened_blank : (o : ObjectParts) → In o (world_of commits images).graph → is_freed (world_of commits images) o.name ≡ true → o ≡ new_object (world_of commits images) o.name
   opened_blank = freed_as_made bare images right
 
-pub opened_is_orderly : (open_limit commits : ℕ) (images : List (List SlotParts)) → AreImages images → IsTrue (has_root images) → IsWhole images → IsOrderly (world_of open_limit commits images)
-opened_is_orderly open_limit commits images right root whole =
-    let w : World = bare_world open_limit commits (length images) in
+pub opened_is_orderly : (commits : ℕ) (images : List (List SlotParts)) → AreImages images → IsTrue (has_root images) → IsWhole images → IsOrderly (world_of commits images)
+opened_is_orderly commits images right root whole =
+    let w : World = bare_world commits (length images) in
     record {
       root = root_unfreed w images right root whole;
       placed = names_placed w images right;
@@ -198,13 +198,13 @@ opened_is_orderly open_limit commits images right root whole =
       freed_there = freed_are_there w images right;
     }
 
-pub opened_is_lawful : (open_limit commits : ℕ) (images : List (List SlotParts)) → AreImages images → IsTrue (has_root images) → IsWhole images → IsLawful (world_of open_limit commits images)
-opened_is_lawful open_limit commits images right root whole =
-    let w : World = bare_world open_limit commits (length images) in
+pub opened_is_lawful : (commits : ℕ) (images : List (List SlotParts)) → AreImages images → IsTrue (has_root images) → IsWhole images → IsLawful (world_of commits images)
+opened_is_lawful commits images right root whole =
+    let w : World = bare_world commits (length images) in
     let names : List NameParts = of_places freed_in images in
     record {
-      orderly = opened_is_orderly open_limit commits images right root whole;
-      freed = each_from (IsOutOfReach (world_of open_limit commits images)) names (λ name m. (freed_unreached w images right root whole name (in_has_name names name m), tt));
+      orderly = opened_is_orderly commits images right root whole;
+      freed = each_from (IsOutOfReach (world_of commits images)) names (λ name m. (freed_unreached w images right root whole name (in_has_name names name m), tt));
       lost = tt;
       swept = tt;
       doubt = tt;

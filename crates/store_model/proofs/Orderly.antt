@@ -6,7 +6,7 @@ use Rattle.std.specs.Option.{is_some, unwrap_or, MatchOption}
 use Rattle.std.proofs.lemmas.Bool.{and_parts, and_from, cases_Bool, eqb-true, not-true}
 use Rattle.object_graph.specs.NameParts.{NameParts}
 use Rattle.object_graph.specs.Names.{root_name}
-use Rattle.object_graph.specs.declared.names.Object.{Object}
+use Rattle.object_graph.specs.ObjectParts.{ObjectParts}
 use Rattle.object_graph.specs.declared.calls.Call.{Call}
 use Rattle.object_graph.specs.declared.calls.Call.TheVariants.{Begin, Get, Number, Set, Put, New, Commit, Abort, OpenCut, Copy, HandIn, Close, Mark, Sweep, EndCut, DropCut, Reopen}
 use Rattle.object_graph.specs.declared.calls.Reply.{Reply}
@@ -14,7 +14,7 @@ use Rattle.object_graph.specs.declared.calls.Reply.TheVariants.{Freed, Reopened,
 use Rattle.object_graph.specs.declared.calls.Refusal.{Refusal}
 use Rattle.object_graph.specs.declared.calls.Refusal.TheVariants.{DiskFault}
 use Rattle.object_graph.specs.Graphs.{has_name, has_object, objects_at}
-use Rattle.store_model.specs.Worlds.{World, Transaction, OpenedCut, Doubt, no_doubt, commit_in_doubt, sweep_in_doubt, Note, starts, view, is_freed, unfreed, find_transaction, transaction, fresh_transaction, IsReached}
+use Rattle.store_model.specs.Worlds.{World, Transaction, OpenedCut, Doubt, no_doubt, commit_in_doubt, sweep_in_doubt, Note, view, is_freed, unfreed, find_transaction, transaction, fresh_transaction, IsReached}
 use Rattle.store_model.specs.Causes.{first_refusal, causes, new_name}
 use Rattle.store_model.specs.Replies.{AllowsReply, Answers, names_in, found_in, IsGarbage, MayFree, MayFreeNow, MayReopen}
 use Rattle.store_model.specs.Steps.{graph_in_doubt, after_refusal, after_answer, after_reply}
@@ -37,7 +37,7 @@ use Rattle.store_model.proofs.Committed.{view_is_orderly, commit_is_orderly, abo
 
 -- ---- a transaction begins
 
-pub fresh_is_lawful : (w : World) (n : ℕ) → IsOrderly w → IsLawfulTransaction w.graph w.freed (starts w) (fresh_transaction n)
+pub fresh_is_lawful : (w : World) (n : ℕ) → IsOrderly w → IsLawfulTransaction w.graph w.freed (fresh_transaction n)
 fresh_is_lawful w n lawful =
     let root : has_object w.graph root_name ≡ true = (and_parts (has_object w.graph root_name) (not (is_freed w root_name)) lawful.root).0 in
     record { own = tt; one_at_each_place = λ page slot. omega arith; writes = tt; known = (inr (root_name, [], refl, (refl, root)), tt) }
@@ -100,18 +100,18 @@ freed_is_orderly w names lawful free = record {
   own_placed = lawful.own_placed;
   whole = lawful.whole;
   counted = lawful.counted;
-  last = each_from (λ (o : Object). o.name.generation ≡ length (objects_at w.graph o.name.page o.name.slot)) (filter (is_unfreed (names ++ w.freed)) w.graph) (λ o m.
+  last = each_from (λ (o : ObjectParts). o.name.generation ≡ length (objects_at w.graph o.name.page o.name.slot)) (filter (is_unfreed (names ++ w.freed)) w.graph) (λ o m.
       let a = in_filter (is_unfreed (names ++ w.freed)) w.graph o m in
-      each_in (λ (o : Object). o.name.generation ≡ length (objects_at w.graph o.name.page o.name.slot)) (unfreed w) o lawful.last
+      each_in (λ (o : ObjectParts). o.name.generation ≡ length (objects_at w.graph o.name.page o.name.slot)) (unfreed w) o lawful.last
       (filter_in (is_unfreed w.freed) w.graph o a.0 (elim (cases_Bool (has_name w.freed o.name)) [
         | inr e ↦ ap not e
         | inl e ↦ let b = more o.name e in let c = not-true (has_name (names ++ w.freed) o.name) a.1 in cc
       ])));
   distinct = lawful.distinct;
-  transactions = all_map (IsLawfulTransaction w.graph w.freed (starts w)) (IsLawfulTransaction w.graph (names ++ w.freed) (starts w)) w.transactions lawful.transactions (λ t m lt. record {
+  transactions = all_map (IsLawfulTransaction w.graph w.freed) (IsLawfulTransaction w.graph (names ++ w.freed)) w.transactions lawful.transactions (λ t m lt. record {
     own = all_map (IsOwn w.graph w.freed t) (IsOwn w.graph (names ++ w.freed) t) t.own lt.own (λ n m own. record {
       page = own.page;
-      free = all_map (λ (o : Object). IsTrue (has_name w.freed o.name)) (λ (o : Object). IsTrue (has_name (names ++ w.freed) o.name)) (objects_at w.graph n.page n.slot) own.free (λ o m h. more o.name h);
+      free = all_map (λ (o : ObjectParts). IsTrue (has_name w.freed o.name)) (λ (o : ObjectParts). IsTrue (has_name (names ++ w.freed) o.name)) (objects_at w.graph n.page n.slot) own.free (λ o m h. more o.name h);
       next = own.next;
     });
     one_at_each_place = lt.one_at_each_place;
@@ -162,7 +162,7 @@ emptied w commits a = record {
 abbrev pub HasUnreached : World → List NameParts → Type 0
 HasUnreached w names = AllByRecursion (λ name. IsTrue (has_object w.graph name) × (¬ IsReached w name)) names
 
-reopened_with : (w : World) (graph : List Object) (commits : ℕ) (names : List NameParts) → IsOrderly (record w { graph = graph; commits = commits; transactions = [] })
+reopened_with : (w : World) (graph : List ObjectParts) (commits : ℕ) (names : List NameParts) → IsOrderly (record w { graph = graph; commits = commits; transactions = [] })
     → HasUnreached (record w { graph = graph; commits = commits; transactions = [] }) names
     → IsOrderly (record w { graph = graph; commits = commits; freed = names ++ w.freed; transactions = []; cut = None; broken = None; doubt = no_doubt })
 reopened_with w graph commits names lawful free = freed_is_orderly (record w { graph = graph; commits = commits; transactions = [] }) names lawful free
@@ -175,11 +175,11 @@ found_unreached w (sweep_in_doubt page) commits names may = elim may.1 [
   | inr s ↦ subst (HasUnreached w) (sym s.2) (may_free_unreached w page s.0 s.1)
 ]
 
-lawful_any : (w : World) (n : ℕ) → IsOrderly w → IsLawfulTransaction w.graph w.freed (starts w) (transaction w n) × AllByRecursion (IsPlacedName w) (transaction w n).own
+lawful_any : (w : World) (n : ℕ) → IsOrderly w → IsLawfulTransaction w.graph w.freed (transaction w n) × AllByRecursion (IsPlacedName w) (transaction w n).own
 lawful_any w n lawful = by_found (find_transaction w n) refl
   where
     by_found : (o : Option Transaction) → find_transaction w n ≡ o
-        → IsLawfulTransaction w.graph w.freed (starts w) (unwrap_or o (fresh_transaction n)) × AllByRecursion (IsPlacedName w) (unwrap_or o (fresh_transaction n)).own
+        → IsLawfulTransaction w.graph w.freed (unwrap_or o (fresh_transaction n)) × AllByRecursion (IsPlacedName w) (unwrap_or o (fresh_transaction n)).own
     by_found None e = (fresh_is_lawful w n lawful, tt)
     by_found (Some t) e =
         let i = find_in (λ (t : Transaction). t.number == n) w.transactions t e in

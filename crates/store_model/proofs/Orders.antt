@@ -4,7 +4,7 @@ use Rattle.std.specs.List.{filter, AllByRecursion}
 use Rattle.std.proofs.lemmas.Bool.{eq-eqb}
 use Rattle.std.proofs.lemmas.List.{length-map}
 use Rattle.object_graph.specs.NameParts.{NameParts}
-use Rattle.store_model.specs.Worlds.{World, Transaction, slots_of, starts, transaction}
+use Rattle.store_model.specs.Worlds.{World, Transaction, slots_of, transaction}
 use Rattle.store_model.specs.Steps.{with_transaction}
 use Rattle.store_model.specs.Lawful.{IsPlaced, IsLawfulTransaction, IsApart}
 use Rattle.object_graph.proofs.Members.{In, filter_in, each_in, each_from}
@@ -16,8 +16,8 @@ use Rattle.store_model.proofs.Lists.{two_in, in_changed, apart_at, apart_from}
 abbrev pub IsPlacedName : World → NameParts → Type 0
 IsPlacedName w n = IsPlaced w.pages (slots_of w) n
 
-pub lawful_one : (w : World) (t : Transaction) → IsOrderly w → In t w.transactions → IsLawfulTransaction w.graph w.freed (starts w) t
-lawful_one w t lawful m = each_in (IsLawfulTransaction w.graph w.freed (starts w)) w.transactions t lawful.transactions m
+pub lawful_one : (w : World) (t : Transaction) → IsOrderly w → In t w.transactions → IsLawfulTransaction w.graph w.freed t
+lawful_one w t lawful m = each_in (IsLawfulTransaction w.graph w.freed) w.transactions t lawful.transactions m
 
 pub placed_one : (w : World) (t : Transaction) → IsOrderly w → In t w.transactions → AllByRecursion (IsPlacedName w) t.own
 placed_one w t lawful m = each_in (λ (t : Transaction). AllByRecursion (IsPlacedName w) t.own) w.transactions t lawful.own_placed m
@@ -29,7 +29,7 @@ pub record IsLawfulChange (w : World) (n : ℕ) (f : Transaction → Transaction
   pub is_open : In (transaction w n) w.transactions
   pub number : (transaction w n).number ≡ n
   pub numbers : (t : Transaction) → (f t).number ≡ t.number
-  pub lawful : IsLawfulTransaction w.graph w.freed (starts w) (f (transaction w n))
+  pub lawful : IsLawfulTransaction w.graph w.freed (f (transaction w n))
   pub placed : AllByRecursion (IsPlacedName w) (f (transaction w n)).own
   pub apart : (u : Transaction) → In u w.transactions → u.number ≢ n → IsApart (f (transaction w n)) u × IsApart u (f (transaction w n))
 
@@ -68,11 +68,11 @@ change_is_orderly w n f lawful change = record {
   counted = lawful.counted;
   last = lawful.last;
   distinct = λ k. subst (λ m. m < 2) (sym (distinct_changed n k f w.transactions change.numbers)) (lawful.distinct k);
-  transactions = each_from (IsLawfulTransaction w.graph w.freed (starts w)) after (λ u m.
+  transactions = each_from (IsLawfulTransaction w.graph w.freed) after (λ u m.
       let a = in_changed n f w.transactions u m in
       elim a.2 [
-        | inl e ↦ subst (IsLawfulTransaction w.graph w.freed (starts w)) (sym (is_one a.0 u a.1 e.0 e.1)) change.lawful
-        | inr e ↦ subst (IsLawfulTransaction w.graph w.freed (starts w)) (sym e.1) (lawful_one w a.0 lawful a.1)
+        | inl e ↦ subst (IsLawfulTransaction w.graph w.freed) (sym (is_one a.0 u a.1 e.0 e.1)) change.lawful
+        | inr e ↦ subst (IsLawfulTransaction w.graph w.freed) (sym e.1) (lawful_one w a.0 lawful a.1)
       ]);
   apart = apart_from after (λ t u i j ne.
       let a = in_changed n f w.transactions t i in

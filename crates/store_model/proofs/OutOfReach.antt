@@ -15,7 +15,7 @@ use Rattle.store_model.proofs.Cuts.{safe_view, commit_keeps_unreached}
 use Rattle.store_model.specs.Lawful.{IsOrderly}
 
 pub safe_one : (w : World) (t : Transaction) → IsOrderly w → In t w.transactions → IsSafeView w t
-safe_one w t lawful m = safe_view w t lawful.counted (each_in (IsLawfulTransaction w.graph w.freed (starts w)) w.transactions t lawful.transactions m)
+safe_one w t lawful m = safe_view w t lawful.counted (each_in (IsLawfulTransaction w.graph w.freed) w.transactions t lawful.transactions m)
 
 -- a committed name that isn't reached is held by nobody
 pub unreached_is_out : (w : World) (name : NameParts) → IsOrderly w → has_object w.graph name ≡ true → ¬ IsReached w name → IsOutOfReach w name

@@ -7,7 +7,7 @@ use Rattle.std.proofs.lemmas.List.{get_or_past}
 use Rattle.std.proofs.lemmas.List.Elements.{filter-append}
 use Rattle.object_graph.specs.NameParts.{NameParts}
 use Rattle.object_graph.specs.SlotParts.{SlotParts}
-use Rattle.object_graph.specs.declared.names.Object.{Object}
+use Rattle.object_graph.specs.ObjectParts.{ObjectParts}
 use Rattle.object_graph.specs.Graphs.{is_at, objects_at}
 use Rattle.object_graph.specs.Slots.{below}
 use Rattle.object_graph.proofs.Members.{In}
@@ -138,15 +138,15 @@ not_at page slot p s name at off = elim (cases_Bool (is_at page slot name)) [
       absurd (off (sym (eqb-true name.page p a.0) ∙ eqb-true name.page page b.0) (sym (eqb-true name.slot s a.1) ∙ eqb-true name.slot slot b.1))
 ]
 
-module _ (f : ℕ → ℕ → SlotParts → List Object) (none : (page slot : ℕ) → f page slot no_slot ≡ []) (at : (page slot : ℕ) (s : SlotParts) (o : Object) → In o (f page slot s) → is_at page slot o.name ≡ true)
+module _ (f : ℕ → ℕ → SlotParts → List ObjectParts) (none : (page slot : ℕ) → f page slot no_slot ≡ []) (at : (page slot : ℕ) (s : SlotParts) (o : ObjectParts) → In o (f page slot s) → is_at page slot o.name ≡ true)
     (images : List (List SlotParts)) (page slot : ℕ) where
-  abbrev here : Object → Bool
+  abbrev here : ObjectParts → Bool
   here o = is_at page slot o.name
 
-  abbrev on_page : ℕ → List Object
+  abbrev on_page : ℕ → List ObjectParts
   on_page p = of_slots (f p) (get_or images p [])
 
-  abbrev in_slot : ℕ → List Object
+  abbrev in_slot : ℕ → List ObjectParts
   in_slot s = f page s (slot_in images page s)
 
   other_page : (p : ℕ) → p ≢ page → filter here (on_page p) ≡ []

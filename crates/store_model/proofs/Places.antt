@@ -5,10 +5,10 @@ use Rattle.std.proofs.lemmas.Bool.{and_parts, eqb-true}
 use Rattle.std.proofs.lemmas.List.Elements.{filter-append}
 use Rattle.std.proofs.lemmas.List.{map-append, length-map}
 use Rattle.object_graph.specs.NameParts.{NameParts}
-use Rattle.object_graph.specs.declared.names.Object.{Object}
+use Rattle.object_graph.specs.ObjectParts.{ObjectParts}
 use Rattle.object_graph.specs.Graphs.{is_at, objects_at}
 use Rattle.object_graph.specs.Slots.{below}
-use Rattle.store_model.specs.Worlds.{World, Transaction, starts, view, with_writes, new_object}
+use Rattle.store_model.specs.Worlds.{World, Transaction, view, with_writes, new_object}
 use Rattle.store_model.specs.Lawful.{IsOwn, IsLawfulTransaction, CountsUp, generations_at}
 use Rattle.object_graph.proofs.Members.{In, in_filter, each_in}
 use Rattle.store_model.proofs.Lists.{filter_same}
@@ -23,36 +23,36 @@ filter_of_map f p (x ∷ xs) = one f p x xs (filter_of_map f p xs) (p (f x))
     one f p x xs h true = ap (λ ys. f x ∷ ys) h
     one f p x xs h false = h
 
-pub objects_at-map : (f : Object → Object) (os : List Object) (page slot : ℕ) → ((o : Object) → (f o).name ≡ o.name) → objects_at (map f os) page slot ≡ map f (objects_at os page slot)
+pub objects_at-map : (f : ObjectParts → ObjectParts) (os : List ObjectParts) (page slot : ℕ) → ((o : ObjectParts) → (f o).name ≡ o.name) → objects_at (map f os) page slot ≡ map f (objects_at os page slot)
 objects_at-map f os page slot h =
-    filter_of_map f (λ (o : Object). is_at page slot o.name) os
-    ∙ ap (map f) (filter_same (λ (o : Object). is_at page slot (f o).name) (λ (o : Object). is_at page slot o.name) os (λ o. ap (is_at page slot) (h o)))
+    filter_of_map f (λ (o : ObjectParts). is_at page slot o.name) os
+    ∙ ap (map f) (filter_same (λ (o : ObjectParts). is_at page slot (f o).name) (λ (o : ObjectParts). is_at page slot o.name) os (λ o. ap (is_at page slot) (h o)))
 
 pub map_of_map : {A B C : Type 0} (f : A → B) (g : B → C) (xs : List A) → map g (map f xs) ≡ map (λ x. g (f x)) xs
 map_of_map f g [] = refl
 map_of_map f g (x ∷ xs) = ap (λ ys. g (f x) ∷ ys) (map_of_map f g xs)
 
-abbrev pub generation_of : Object → ℕ
+abbrev pub generation_of : ObjectParts → ℕ
 generation_of o = o.name.generation
 
 -- writes leave the names of a place
-pub generations-with_writes : (t : Transaction) (graph : List Object) (page slot : ℕ)
+pub generations-with_writes : (t : Transaction) (graph : List ObjectParts) (page slot : ℕ)
     → generations_at (map (with_writes t.writes) graph) page slot ≡ generations_at graph page slot
 generations-with_writes t [] page slot = refl
 generations-with_writes t (o ∷ os) page slot =
     one t o os page slot (generations-with_writes t os page slot) (with_writes t.writes o) (name-with_writes t.writes o)
   where
-    by_test : (t : Transaction) (o : Object) (os : List Object) (page slot : ℕ)
+    by_test : (t : Transaction) (o : ObjectParts) (os : List ObjectParts) (page slot : ℕ)
         → generations_at (map (with_writes t.writes) os) page slot ≡ generations_at os page slot
-        → (seen : Object) → seen.name ≡ o.name → (b : Bool)
+        → (seen : ObjectParts) → seen.name ≡ o.name → (b : Bool)
         → map generation_of (cond b (seen ∷ objects_at (map (with_writes t.writes) os) page slot) (objects_at (map (with_writes t.writes) os) page slot))
         ≡ map generation_of (cond b (o ∷ objects_at os page slot) (objects_at os page slot))
     by_test t o os page slot h seen e true = ap (λ n. n.generation ∷ generations_at (map (with_writes t.writes) os) page slot) e ∙ ap (λ gs. o.name.generation ∷ gs) h
     by_test t o os page slot h seen e false = h
 
-    one : (t : Transaction) (o : Object) (os : List Object) (page slot : ℕ)
+    one : (t : Transaction) (o : ObjectParts) (os : List ObjectParts) (page slot : ℕ)
         → generations_at (map (with_writes t.writes) os) page slot ≡ generations_at os page slot
-        → (seen : Object) → seen.name ≡ o.name
+        → (seen : ObjectParts) → seen.name ≡ o.name
         → map generation_of (cond (is_at page slot seen.name) (seen ∷ objects_at (map (with_writes t.writes) os) page slot) (objects_at (map (with_writes t.writes) os) page slot))
         ≡ generations_at (o ∷ os) page slot
     one t o os page slot h seen e =
@@ -82,11 +82,11 @@ counted_more gs more k h l (inr e) =
     rw e (rw length-append (rw l (rw add-one (rw map-append (rw one-add (ap (λ xs. xs ++ suc k ∷ []) h))))))
 
 -- a commit leaves the names of each place counting up
-pub commit_counts_up : (w : World) (t : Transaction) → CountsUp w.graph → IsLawfulTransaction w.graph w.freed (starts w) t → CountsUp (view w t)
+pub commit_counts_up : (w : World) (t : Transaction) → CountsUp w.graph → IsLawfulTransaction w.graph w.freed t → CountsUp (view w t)
 commit_counts_up w t h lawful = λ page slot.
     let names : List NameParts = filter (is_at page slot) t.own in
     let k : ℕ = length (objects_at w.graph page slot) in
-    let news : List Object = map (new_object w) t.own in
+    let news : List ObjectParts = map (new_object w) t.own in
     let a : generations_at (view w t) page slot ≡ generations_at (w.graph ++ news) page slot =
     generations-with_writes t (w.graph ++ news) page slot in
     let b : generations_at (w.graph ++ news) page slot ≡ generations_at w.graph page slot ++ generations_at news page slot =

@@ -5,7 +5,7 @@ use Rattle.std.specs.Bool.{IsTrue}
 use Rattle.std.proofs.lemmas.Bool.{and_parts, and_from}
 use Rattle.object_graph.specs.NameParts.{NameParts}
 use Rattle.object_graph.specs.Names.{name_eq}
-use Rattle.object_graph.specs.declared.names.Object.{Object}
+use Rattle.object_graph.specs.ObjectParts.{ObjectParts}
 use Rattle.object_graph.specs.Graphs.{has_object, has_name, is_to, refers, IsPath, IsReachedFrom}
 use Rattle.store_model.specs.Worlds.{World, Transaction, Write, link, assign, starts, view, with_writes, written_by, new_object, fields_of, IsReached, IsHeldBy}
 use Rattle.store_model.specs.Causes.{has_page}
@@ -15,15 +15,15 @@ use Rattle.object_graph.proofs.Paths.{has_name_in, in_has_name, has_object_in, i
 
 -- ---- an object under writes
 
-cond_name : (b : Bool) (x o : Object) → x.name ≡ o.name → (cond b x o).name ≡ o.name
+cond_name : (b : Bool) (x o : ObjectParts) → x.name ≡ o.name → (cond b x o).name ≡ o.name
 cond_name true x o e = e
 cond_name false x o e = refl
 
-pub name-written_by : (write : Write) (o : Object) → (written_by write o).name ≡ o.name
+pub name-written_by : (write : Write) (o : ObjectParts) → (written_by write o).name ≡ o.name
 name-written_by (link name field target) o = cond_name (name_eq o.name name) (record o { refs = slice_set o.refs field target }) o refl
 name-written_by (assign name value) o = cond_name (name_eq o.name name) (record o { number = value }) o refl
 
-pub name-with_writes : (writes : List Write) (o : Object) → (with_writes writes o).name ≡ o.name
+pub name-with_writes : (writes : List Write) (o : ObjectParts) → (with_writes writes o).name ≡ o.name
 name-with_writes [] o = refl
 name-with_writes (write ∷ writes) o = name-written_by write (with_writes writes o) ∙ name-with_writes writes o
 
@@ -40,11 +40,11 @@ abbrev pub IsTarget : NameParts → Write → Type 0
 IsTarget target (link name field given) = given ≡ Some target
 IsTarget target (assign name value) = ⊥
 
-cond_refs : (b : Bool) (x o : Object) (P : Type 0) (r : Option NameParts) → (In r x.refs → In r o.refs ⊎ P) → In r (cond b x o).refs → In r o.refs ⊎ P
+cond_refs : (b : Bool) (x o : ObjectParts) (P : Type 0) (r : Option NameParts) → (In r x.refs → In r o.refs ⊎ P) → In r (cond b x o).refs → In r o.refs ⊎ P
 cond_refs true x o P r f m = f m
 cond_refs false x o P r f m = inl m
 
-pub refs-written_by : (write : Write) (o : Object) (target : NameParts) → In (Some target) (written_by write o).refs
+pub refs-written_by : (write : Write) (o : ObjectParts) (target : NameParts) → In (Some target) (written_by write o).refs
     → In (Some target) o.refs ⊎ IsTarget target write
 refs-written_by (link name field given) o target m =
     cond_refs (name_eq o.name name) (record o { refs = slice_set o.refs field given }) o (given ≡ Some target) (Some target)
@@ -52,7 +52,7 @@ refs-written_by (link name field given) o target m =
 refs-written_by (assign name value) o target m =
     cond_refs (name_eq o.name name) (record o { number = value }) o ⊥ (Some target) (λ k. inl k) m
 
-pub refs-with_writes : (writes : List Write) (o : Object) (target : NameParts) → In (Some target) (with_writes writes o).refs
+pub refs-with_writes : (writes : List Write) (o : ObjectParts) (target : NameParts) → In (Some target) (with_writes writes o).refs
     → In (Some target) o.refs ⊎ ((write : Write) × In write writes × IsTarget target write)
 refs-with_writes [] o target m = inl m
 refs-with_writes (write ∷ writes) o target m = elim (refs-written_by write (with_writes writes o) target m) [
@@ -75,7 +75,7 @@ covered_path w t first (n ∷ ns) last p = (p.0, p.1, covered_path w t n ns last
 abbrev pub IsOwnOrReached : World → Transaction → NameParts → Type 0
 IsOwnOrReached w t name = IsTrue (has_name t.own name) ⊎ IsReached w name
 
-pub covered : (w : World) (t : Transaction) (name : NameParts) → IsCovered w.graph (starts w) t name → IsOwnOrReached w t name
+pub covered : (w : World) (t : Transaction) (name : NameParts) → IsCovered w.graph t name → IsOwnOrReached w t name
 covered w t name c = elim c [
   | inl o ↦ inl o
   | inr p ↦ inr (p.0, p.2, (p.1, covered_path w t p.0 p.1 name p.3))
@@ -83,7 +83,7 @@ covered w t name c = elim c [
 
 -- what the steps in a view rest on
 pub record IsSafeView (w : World) (t : Transaction) : Type 0 where
-  pub known : AllByRecursion (IsCovered w.graph (starts w) t) t.known
+  pub known : AllByRecursion (IsCovered w.graph t) t.known
   pub writes : AllByRecursion (IsKnownWrite t) t.writes
   pub own_are_new : (name : NameParts) → IsTrue (has_name t.own name) → has_object w.graph name ≡ false
 
@@ -97,13 +97,13 @@ target_known t (assign name value) target k e = absurd e
 
 -- a known name is own or reached
 pub known_name : (w : World) (t : Transaction) (name : NameParts) → IsSafeView w t → has_name t.known name ≡ true → IsOwnOrReached w t name
-known_name w t name safe h = covered w t name (each_in (IsCovered w.graph (starts w) t) t.known name safe.known (has_name_in t.known name h))
+known_name w t name safe h = covered w t name (each_in (IsCovered w.graph t) t.known name safe.known (has_name_in t.known name h))
 
 -- the object of a view comes from the graph, or is a new one of the transaction's own
-abbrev pub IsUnder : World → Transaction → Object → Object → Type 0
+abbrev pub IsUnder : World → Transaction → ObjectParts → ObjectParts → Type 0
 IsUnder w t seen o = (In o w.graph ⊎ ((name : NameParts) × In name t.own × (o ≡ new_object w name))) × (seen ≡ with_writes t.writes o)
 
-pub view_object : (w : World) (t : Transaction) (seen : Object) → In seen (view w t) → (o : Object) × IsUnder w t seen o
+pub view_object : (w : World) (t : Transaction) (seen : ObjectParts) → In seen (view w t) → (o : ObjectParts) × IsUnder w t seen o
 view_object w t seen m =
     let a = in_map (with_writes t.writes) (w.graph ++ map (new_object w) t.own) seen m in (
       a.0,
@@ -119,12 +119,12 @@ pub view_name : (w : World) (t : Transaction) (name : NameParts) → has_object 
 view_name w t name h =
     let a = has_object_in (view w t) name h in
     let b = view_object w t a.0 a.1 in
-    let o : Object = b.0 in
-    let same : o.name ≡ name = sym (name-with_writes t.writes o) ∙ (ap (λ (x : Object). x.name) (sym b.1.1) ∙ a.2) in
+    let o : ObjectParts = b.0 in
+    let same : o.name ≡ name = sym (name-with_writes t.writes o) ∙ (ap (λ (x : ObjectParts). x.name) (sym b.1.1) ∙ a.2) in
     elim b.1.0 [
       | inl g ↦ inl (subst (λ n. has_object w.graph n ≡ true) same (in_has_object w.graph o g))
       | inr n ↦
-          let q : n.0 ≡ name = ap (λ (x : Object). x.name) (sym n.2) ∙ same in
+          let q : n.0 ≡ name = ap (λ (x : ObjectParts). x.name) (sym n.2) ∙ same in
           inr (subst (λ k. has_name t.own k ≡ true) q (in_has_name t.own n.0 n.1))
     ]
 
@@ -133,15 +133,15 @@ pub view_step : (w : World) (t : Transaction) (first target : NameParts) → IsS
     → IsOwnOrReached w t first → refers (view w t) first target ≡ true → has_object (view w t) target ≡ true → IsOwnOrReached w t target
 view_step w t first target safe h r there =
     let a = any_in (λ o. name_eq o.name first && list_any (is_to target) o.refs) (view w t) r in
-    let seen : Object = a.0 in
+    let seen : ObjectParts = a.0 in
     let b = and_parts (name_eq seen.name first) (list_any (is_to target) seen.refs) a.2 in
     let ref = any_in (is_to target) seen.refs b.1 in
     let m : In (Some target) seen.refs = subst (λ x. In x seen.refs) (is_to_same target ref.0 ref.2) ref.1 in
     let u = view_object w t seen a.1 in
-    let o : Object = u.0 in
-    let k : In (Some target) (with_writes t.writes o).refs = subst (λ (x : Object). In (Some target) x.refs) u.1.1 m in
+    let o : ObjectParts = u.0 in
+    let k : In (Some target) (with_writes t.writes o).refs = subst (λ (x : ObjectParts). In (Some target) x.refs) u.1.1 m in
     let named : o.name ≡ first =
-    sym (name-with_writes t.writes o) ∙ (ap (λ (x : Object). x.name) (sym u.1.1) ∙ name_eq_same seen.name first b.0) in
+    sym (name-with_writes t.writes o) ∙ (ap (λ (x : ObjectParts). x.name) (sym u.1.1) ∙ name_eq_same seen.name first b.0) in
     elim (refs-with_writes t.writes o target k) [
       | inl kept ↦ elim u.1.0 [
         | inl g ↦ elim (view_name w t target there) [
@@ -161,7 +161,7 @@ view_step w t first target safe h r there =
           | inr t_own ↦ inl t_own
         ]
         | inr n ↦
-            let z : In (Some target) (new_object w n.0).refs = subst (λ (x : Object). In (Some target) x.refs) n.2 kept in
+            let z : In (Some target) (new_object w n.0).refs = subst (λ (x : ObjectParts). In (Some target) x.refs) n.2 kept in
             absurd (none_only (fields_of w n.0.page) target z)
       ]
       | inr wrote ↦

@@ -58,7 +58,7 @@ abbrev pub kind_in_reply : List ℕ → ℕ
 kind_in_reply text = place_of (reply_mark text) (map reply_mark reply_words)
 
 -- a number begins with a digit
-first_digit : (n c : ℕ) (rest : List ℕ) → n < 2 ^ 64 → 58 ≤ c → (get_or (decimal n ++ rest) 0 0 == c) ≡ false
+pub first_digit : (n c : ℕ) (rest : List ℕ) → n < 2 ^ 64 → 58 ≤ c → (get_or (decimal n ++ rest) 0 0 == c) ≡ false
 first_digit n c rest small high = by_digits (decimal n) (decimal_is_IsNumeral n small).0.0 (decimal_is_IsNumeral n small).0.1
   where
     by_digits : (ds : List ℕ) → 0 < length ds → AllDigits 10 ds → (get_or (ds ++ rest) 0 0 == c) ≡ false

@@ -4,7 +4,7 @@ use Rattle.std.specs.List.{list_any, list_all, filter}
 use Rattle.std.proofs.lemmas.Bool.{and_parts, and_from, or_cases, eq-eqb, not-true}
 use Rattle.object_graph.specs.NameParts.{NameParts}
 use Rattle.object_graph.specs.Names.{name_eq}
-use Rattle.object_graph.specs.declared.names.Object.{Object}
+use Rattle.object_graph.specs.ObjectParts.{ObjectParts}
 use Rattle.object_graph.specs.Graphs.{has_object, has_name, is_to, refers, IsReachedFrom, objects_at}
 use Rattle.object_graph.specs.Slots.{slots_in}
 use Rattle.store_model.specs.Worlds.{World, Transaction, Opening, starts, view, is_freed, is_unfreed, is_old, IsHeldBy, IsLost}
@@ -13,25 +13,25 @@ use Rattle.object_graph.proofs.Members.{In, any_in, in_any, all_in, in_filter, i
 use Rattle.object_graph.proofs.Paths.{has_name_in, in_has_name, has_object_in, in_has_object, name_eq_refl, reached_more, is_closed, closed_path, path_first}
 
 -- the object's name is in the set, or an object of a name in the set refers to it
-abbrev pub is_next : List Object → List NameParts → Object → Bool
+abbrev pub is_next : List ObjectParts → List NameParts → ObjectParts → Bool
 is_next graph set o = has_name set o.name || list_any (λ p. has_name set p.name && list_any (is_to o.name) p.refs) graph
 
-abbrev pub next_names : List Object → List NameParts → List NameParts
+abbrev pub next_names : List ObjectParts → List NameParts → List NameParts
 next_names graph set = map (λ o. o.name) (filter (is_next graph set) graph)
 
 -- what is reached by paths of at most so many steps
-abbrev pub rounds : ℕ → List Object → List NameParts → List NameParts
+abbrev pub rounds : ℕ → List ObjectParts → List NameParts → List NameParts
 rounds zero graph starts = filter (has_object graph) starts
 rounds (suc n) graph starts = next_names graph (rounds n graph starts)
 
-pub rounds_sound : (n : ℕ) (graph : List Object) (starts : List NameParts) (name : NameParts) → In name (rounds n graph starts) → IsReachedFrom graph starts name
+pub rounds_sound : (n : ℕ) (graph : List ObjectParts) (starts : List NameParts) (name : NameParts) → In name (rounds n graph starts) → IsReachedFrom graph starts name
 rounds_sound zero graph starts name m =
     let r = in_filter (has_object graph) starts name m in
     (name, in_has_name starts name r.0, ([], (refl, r.1)))
 rounds_sound (suc n) graph starts name m =
     let set : List NameParts = rounds n graph starts in
-    let a = in_map (λ (o : Object). o.name) (filter (is_next graph set) graph) name m in
-    let o : Object = a.0 in
+    let a = in_map (λ (o : ObjectParts). o.name) (filter (is_next graph set) graph) name m in
+    let o : ObjectParts = a.0 in
     let b = in_filter (is_next graph set) graph o a.1 in
     let there : has_object graph o.name ≡ true = in_has_object graph o b.0 in
     subst (λ k. IsReachedFrom graph starts k) (sym a.2)
@@ -39,7 +39,7 @@ rounds_sound (suc n) graph starts name m =
       | inl e ↦ rounds_sound n graph starts o.name (has_name_in set o.name e)
       | inr e ↦
           let c = any_in (λ p. has_name set p.name && list_any (is_to o.name) p.refs) graph e in
-          let p : Object = c.0 in
+          let p : ObjectParts = c.0 in
           let d = and_parts (has_name set p.name) (list_any (is_to o.name) p.refs) c.2 in
           let reached = rounds_sound n graph starts p.name (has_name_in set p.name d.0) in
           let step : refers graph p.name o.name ≡ true =
@@ -49,16 +49,16 @@ rounds_sound (suc n) graph starts name m =
     ])
 
 -- the set holds the starts, and no reference leads out of it
-abbrev pub holds_starts : List Object → List NameParts → List NameParts → Bool
+abbrev pub holds_starts : List ObjectParts → List NameParts → List NameParts → Bool
 holds_starts graph starts set = list_all (λ s. has_name set s || not (has_object graph s)) starts
 
 -- a test by which a name is out of reach
-abbrev pub is_out_of_reach : List Object → List NameParts → NameParts → Bool
+abbrev pub is_out_of_reach : List ObjectParts → List NameParts → NameParts → Bool
 is_out_of_reach graph starts name =
     let set = rounds (length graph) graph starts in
     (is_closed graph set && holds_starts graph starts set) && not (has_name set name)
 
-pub out_of_reach : (graph : List Object) (starts : List NameParts) (name : NameParts) → is_out_of_reach graph starts name ≡ true → ¬ IsReachedFrom graph starts name
+pub out_of_reach : (graph : List ObjectParts) (starts : List NameParts) (name : NameParts) → is_out_of_reach graph starts name ≡ true → ¬ IsReachedFrom graph starts name
 out_of_reach graph starts name h r =
     let set : List NameParts = rounds (length graph) graph starts in
     let a = and_parts (is_closed graph set && holds_starts graph starts set) (not (has_name set name)) h in
@@ -74,7 +74,7 @@ out_of_reach graph starts name h r =
     ]
 
 -- a test by which a name is reached
-abbrev pub is_within_reach : List Object → List NameParts → NameParts → Bool
+abbrev pub is_within_reach : List ObjectParts → List NameParts → NameParts → Bool
 is_within_reach graph starts name = has_name (rounds (length graph) graph starts) name
 
 abbrev pub is_garbage : World → Opening → NameParts → Bool
@@ -83,7 +83,7 @@ is_garbage w opening name =
     && list_all (λ t. is_out_of_reach (view w t) t.known name) w.transactions)
 
 -- an object that was there as the cut opened is on another page, was reached or freed then, is freed since, or is freed now
-abbrev pub is_done : World → Opening → ℕ → ℕ → Object → Bool
+abbrev pub is_done : World → Opening → ℕ → ℕ → ObjectParts → Bool
 is_done w opening page slots o =
     not (o.name.page == page) || (not (is_old opening o.name) || (is_within_reach opening.graph opening.starts o.name
     || (is_freed w o.name || has_name (names_in w page slots) o.name)))
@@ -127,7 +127,7 @@ done_cases w opening page slots name lost on unfreed false false false false e p
 complete_by_test : (w : World) (opening : Opening) (page slots : ℕ) → list_all (is_done w opening page slots) opening.graph ≡ true
     → (name : NameParts) → IsLost opening name → name.page ≡ page → not (is_freed w name) ≡ true → has_name (names_in w page slots) name ≡ true
 complete_by_test w opening page slots h name lost on unfreed =
-    let graph : List Object = opening.graph in
+    let graph : List ObjectParts = opening.graph in
     let o = and_parts (has_object graph name) (not (has_name opening.freed name)) lost.old in
     let found = has_object_in graph name o.0 in
     let d : is_done w opening page slots found.0 ≡ true = all_in (is_done w opening page slots) graph found.0 h found.1 in

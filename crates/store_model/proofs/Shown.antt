@@ -5,7 +5,7 @@ use Rattle.std.proofs.lemmas.Bool.{and_parts, and_from, eqb-true, eq-eqb}
 use Rattle.std.proofs.lemmas.List.{map-append}
 use Rattle.object_graph.specs.NameParts.{NameParts}
 use Rattle.object_graph.specs.SlotParts.{SlotParts}
-use Rattle.object_graph.specs.declared.names.Object.{Object}
+use Rattle.object_graph.specs.ObjectParts.{ObjectParts}
 use Rattle.object_graph.specs.Graphs.{is_at, objects_at}
 use Rattle.object_graph.specs.Slots.{below}
 use Rattle.store_model.specs.Images.{no_slot, object_in, objects_of, unfreed_at, slot_with, shown_slot, shown_of}
@@ -43,7 +43,7 @@ apart_below (suc n) = subst AreApart (sym (map-append suc (below n) (n ∷ [])))
     let e : suc n ≡ suc a.0 = a.2 in
     omega arith))
 
-one_of : (os : List Object) (a b : Object) → AreApart (map generation_of os) → In a os → In b os → a.name.generation ≡ b.name.generation → a ≡ b
+one_of : (os : List ObjectParts) (a b : ObjectParts) → AreApart (map generation_of os) → In a os → In b os → a.name.generation ≡ b.name.generation → a ≡ b
 one_of [] a b h i j e = absurd i
 one_of (o ∷ os) a b h i j e = elim i [
   | inl p ↦ elim j [
@@ -61,20 +61,20 @@ one_of (o ∷ os) a b h i j e = elim i [
 ]
 
 -- two unfreed objects at one place are the same
-abbrev pub OneEach : List Object → List NameParts → Type 0
-OneEach graph freed = (page slot : ℕ) (a b : Object) → In a (unfreed_at graph freed page slot) → In b (unfreed_at graph freed page slot) → a ≡ b
+abbrev pub OneEach : List ObjectParts → List NameParts → Type 0
+OneEach graph freed = (page slot : ℕ) (a b : ObjectParts) → In a (unfreed_at graph freed page slot) → In b (unfreed_at graph freed page slot) → a ≡ b
 
 -- an unfreed object is the last of its place
-pub last_at : (graph : List Object) (freed : List NameParts) (page slot : ℕ) (o : Object) → OnlyLastUnfreed graph freed → In o (unfreed_at graph freed page slot)
+pub last_at : (graph : List ObjectParts) (freed : List NameParts) (page slot : ℕ) (o : ObjectParts) → OnlyLastUnfreed graph freed → In o (unfreed_at graph freed page slot)
     → o.name.generation ≡ length (objects_at graph page slot)
 last_at graph freed page slot o last m =
     let a = in_filter (is_unfreed freed) (objects_at graph page slot) o m in
-    let g = in_filter (λ (o : Object). is_at page slot o.name) graph o a.0 in
+    let g = in_filter (λ (o : ObjectParts). is_at page slot o.name) graph o a.0 in
     let at = and_parts (o.name.page == page) (o.name.slot == slot) g.1 in
-    let e = each_in (λ (o : Object). o.name.generation ≡ length (objects_at graph o.name.page o.name.slot)) (filter (is_unfreed freed) graph) o last (filter_in (is_unfreed freed) graph o g.0 a.1) in
+    let e = each_in (λ (o : ObjectParts). o.name.generation ≡ length (objects_at graph o.name.page o.name.slot)) (filter (is_unfreed freed) graph) o last (filter_in (is_unfreed freed) graph o g.0 a.1) in
     e ∙ (ap (λ p. length (objects_at graph p o.name.slot)) (eqb-true o.name.page page at.0) ∙ ap (λ s. length (objects_at graph page s)) (eqb-true o.name.slot slot at.1))
 
-pub one_each : (graph : List Object) (freed : List NameParts) → CountsUp graph → OnlyLastUnfreed graph freed → OneEach graph freed
+pub one_each : (graph : List ObjectParts) (freed : List NameParts) → CountsUp graph → OnlyLastUnfreed graph freed → OneEach graph freed
 one_each graph freed counts last = λ page slot a b i j.
     one_of (objects_at graph page slot) a b (subst AreApart (sym (counts page slot)) (apart_below (length (objects_at graph page slot))))
     (in_filter (is_unfreed freed) (objects_at graph page slot) a i).0 (in_filter (is_unfreed freed) (objects_at graph page slot) b j).0
@@ -82,34 +82,34 @@ one_each graph freed counts last = λ page slot a b i j.
 
 -- ---- what is shown
 
-pub in_unfreed_at : (graph : List Object) (freed : List NameParts) (o : Object) → In o graph → is_unfreed freed o ≡ true → In o (unfreed_at graph freed o.name.page o.name.slot)
+pub in_unfreed_at : (graph : List ObjectParts) (freed : List NameParts) (o : ObjectParts) → In o graph → is_unfreed freed o ≡ true → In o (unfreed_at graph freed o.name.page o.name.slot)
 in_unfreed_at graph freed o m u =
     filter_in (is_unfreed freed) (objects_at graph o.name.page o.name.slot) o
-    (filter_in (λ (p : Object). is_at o.name.page o.name.slot p.name) graph o m
+    (filter_in (λ (p : ObjectParts). is_at o.name.page o.name.slot p.name) graph o m
     (and_from (o.name.page == o.name.page) (o.name.slot == o.name.slot) (eq-eqb o.name.page o.name.page refl) (eq-eqb o.name.slot o.name.slot refl))) u
 
 -- an object of the graph that the image of a page shows
-pub record IsShown (graph : List Object) (freed : List NameParts) (page : ℕ) (o : Object) : Type 0 where
+pub record IsShown (graph : List ObjectParts) (freed : List NameParts) (page : ℕ) (o : ObjectParts) : Type 0 where
   pub there : In o graph
   pub unfreed : is_unfreed freed o ≡ true
   pub on : o.name.page ≡ page
-  pub others : List Object
+  pub others : List ObjectParts
   pub first : unfreed_at graph freed o.name.page o.name.slot ≡ o ∷ others
 
-slot_shows : (fields : ℕ) (graph : List Object) (freed : List NameParts) (page slot : ℕ) (os : List Object) (o : Object)
+slot_shows : (fields : ℕ) (graph : List ObjectParts) (freed : List NameParts) (page slot : ℕ) (os : List ObjectParts) (o : ObjectParts)
     → os ≡ unfreed_at graph freed page slot → (slot_with fields os (length (objects_at graph page slot))).in_use ≡ true
     → o ≡ object_in page slot (slot_with fields os (length (objects_at graph page slot))) → IsShown graph freed page o
 slot_shows fields graph freed page slot [] o e u is = cc
 slot_shows fields graph freed page slot (h ∷ hs) o e u is =
     let m : In h (unfreed_at graph freed page slot) = subst (λ os. In h os) e (inl refl) in
     let p = in_filter (is_unfreed freed) (objects_at graph page slot) h m in
-    let g = in_filter (λ (o : Object). is_at page slot o.name) graph h p.0 in
+    let g = in_filter (λ (o : ObjectParts). is_at page slot o.name) graph h p.0 in
     let at = and_parts (h.name.page == page) (h.name.slot == slot) g.1 in
     let a = eqb-true h.name.page page at.0 in
     let b = eqb-true h.name.slot slot at.1 in
     let n : name_of page slot h.name.generation ≡ h.name =
     ap (λ k. name_of k slot h.name.generation) (sym a) ∙ ap (λ k. name_of h.name.page k h.name.generation) (sym b) in
-    let same : o ≡ h = is ∙ ap (λ (n : NameParts). let x : Object = record { name = n; number = h.number; refs = h.refs } in x) n in
+    let same : o ≡ h = is ∙ ap (λ (n : NameParts). let x : ObjectParts = record { name = n; number = h.number; refs = h.refs } in x) n in
     let shown : IsShown graph freed page h = record {
       there = g.0;
       unfreed = p.1;
@@ -119,7 +119,7 @@ slot_shows fields graph freed page slot (h ∷ hs) o e u is =
     } in
     subst (IsShown graph freed page) (sym same) shown
 
-pub in_shown : (slots fields : ℕ) (graph : List Object) (freed : List NameParts) (page : ℕ) (o : Object) → In o (objects_of page (shown_of slots fields graph freed page)) → IsShown graph freed page o
+pub in_shown : (slots fields : ℕ) (graph : List ObjectParts) (freed : List NameParts) (page : ℕ) (o : ObjectParts) → In o (objects_of page (shown_of slots fields graph freed page)) → IsShown graph freed page o
 unfolding shown_of
 in_shown slots fields graph freed page o m = shows slots (in_objects_of page (map (shown_slot fields graph freed page) (below slots)) o m)
   where
@@ -131,7 +131,7 @@ in_shown slots fields graph freed page o m = shows slots (in_objects_of page (ma
         slot_shows fields graph freed page s.slot (unfreed_at graph freed page s.slot) o refl
         (subst (λ (p : SlotParts). p.in_use ≡ true) e s.in_use) (subst (λ (p : SlotParts). o ≡ object_in page s.slot p) e s.is)
 
-slot_has : (fields : ℕ) (graph : List Object) (freed : List NameParts) (page slot names : ℕ) (os : List Object) (o : Object) → In o os → ((a : Object) → In a os → a ≡ o)
+slot_has : (fields : ℕ) (graph : List ObjectParts) (freed : List NameParts) (page slot names : ℕ) (os : List ObjectParts) (o : ObjectParts) → In o os → ((a : ObjectParts) → In a os → a ≡ o)
     → o.name.page ≡ page → o.name.slot ≡ slot → ((slot_with fields os names).in_use ≡ true) × (object_in page slot (slot_with fields os names) ≡ o)
 slot_has fields graph freed page slot names [] o m one a b = absurd m
 slot_has fields graph freed page slot names (h ∷ hs) o m one a b =
@@ -139,11 +139,11 @@ slot_has fields graph freed page slot names (h ∷ hs) o m one a b =
     let n : name_of page slot o.name.generation ≡ o.name =
     ap (λ k. name_of k slot o.name.generation) (sym a) ∙ ap (λ k. name_of o.name.page k o.name.generation) (sym b) in (
       refl,
-      ap (λ (x : Object). let y : Object = record { name = name_of page slot x.name.generation; number = x.number; refs = x.refs } in y) same
-          ∙ ap (λ (n : NameParts). let x : Object = record { name = n; number = o.number; refs = o.refs } in x) n,
+      ap (λ (x : ObjectParts). let y : ObjectParts = record { name = name_of page slot x.name.generation; number = x.number; refs = x.refs } in y) same
+          ∙ ap (λ (n : NameParts). let x : ObjectParts = record { name = n; number = o.number; refs = o.refs } in x) n,
     )
 
-pub shows_object : (slots fields : ℕ) (graph : List Object) (freed : List NameParts) (o : Object) → OneEach graph freed → In o graph → is_unfreed freed o ≡ true → o.name.slot < slots
+pub shows_object : (slots fields : ℕ) (graph : List ObjectParts) (freed : List NameParts) (o : ObjectParts) → OneEach graph freed → In o graph → is_unfreed freed o ≡ true → o.name.slot < slots
     → In o (objects_of o.name.page (shown_of slots fields graph freed o.name.page))
 unfolding shown_of
 shows_object slots fields graph freed o one m u low = has slots low
@@ -157,6 +157,6 @@ shows_object slots fields graph freed o one m u low = has slots low
         let h = slot_has fields graph freed page slot (length (objects_at graph page slot)) (unfreed_at graph freed page slot) o i (λ a k. one page slot a o k i) refl refl in
         let e : get_or (map f (below n)) slot no_slot ≡ f slot = get-map_below f n slot no_slot low in
         let within : slot < length (map f (below n)) = let l = length-map_below f n in omega arith in
-        subst (λ (x : Object). In x (objects_of page (map f (below n))))
+        subst (λ (x : ObjectParts). In x (objects_of page (map f (below n))))
         (ap (object_in page slot) e ∙ h.1)
         (objects_of_in page (map f (below n)) slot within (ap (λ (s : SlotParts). s.in_use) e ∙ h.0))

@@ -6,7 +6,7 @@ use Rattle.std.proofs.lemmas.List.{length-replicate}
 use Rattle.object_graph.specs.NameParts.{NameParts}
 use Rattle.object_graph.specs.SlotParts.{SlotParts}
 use Rattle.object_graph.specs.Names.{root_name, name_eq}
-use Rattle.object_graph.specs.declared.names.Object.{Object}
+use Rattle.object_graph.specs.ObjectParts.{ObjectParts}
 use Rattle.object_graph.specs.Graphs.{has_name, has_object, is_at, is_to, refers, objects_at, IsPath, IsReachedFrom}
 use Rattle.object_graph.specs.Slots.{below}
 use Rattle.object_graph.proofs.Members.{In, any_in, in_any, in_filter, filter_in, in_map, map_in, each_in}
@@ -27,13 +27,13 @@ use Rattle.store_model.proofs.Given.{used_named, names_given, freed_given}
 
 -- ---- paths in a part of a graph
 
-module _ (part graph : List Object) (sub : (o : Object) → In o part → In o graph) where
+module _ (part graph : List ObjectParts) (sub : (o : ObjectParts) → In o part → In o graph) where
   more_objects : (name : NameParts) → has_object part name ≡ true → has_object graph name ≡ true
   more_objects name h = let a = has_object_in part name h in subst (λ (n : NameParts). has_object graph n ≡ true) a.2 (in_has_object graph a.0 (sub a.0 a.1))
 
   pub more_refers : (from to : NameParts) → refers part from to ≡ true → refers graph from to ≡ true
   more_refers from to h =
-      let test : Object → Bool = λ o. name_eq o.name from && list_any (is_to to) o.refs in
+      let test : ObjectParts → Bool = λ o. name_eq o.name from && list_any (is_to to) o.refs in
       let a = any_in test part h in
       in_any test graph a.0 (sub a.0 a.1) a.2
 
@@ -49,7 +49,7 @@ module _ (part graph : List Object) (sub : (o : Object) → In o part → In o g
 pub page_shown : (w : World) (page : ℕ) → page < w.pages → get_or (all_shown w) page [] ≡ shown w page
 page_shown w page within = get-map_below (shown w) w.pages page [] within
 
-pub used_shown : (w : World) (o : Object) → In o (objects_in_use (all_shown w)) → IsShown w.graph w.freed o.name.page o
+pub used_shown : (w : World) (o : ObjectParts) → In o (objects_in_use (all_shown w)) → IsShown w.graph w.freed o.name.page o
 used_shown w o m =
     let images : List (List SlotParts) = all_shown w in
     let a = in_flat (λ (page : ℕ). objects_of page (get_or images page [])) (below (length images)) o m in
@@ -58,17 +58,17 @@ used_shown w o m =
     let s = in_shown (slots_of w page) (fields_of w page) w.graph w.freed page o (subst (λ (image : List SlotParts). In o (objects_of page image)) (page_shown w page within) a.2) in
     subst (λ (n : ℕ). IsShown w.graph w.freed n o) (sym s.on) s
 
-pub shown_used : (w : World) (o : Object) → IsOrderly w → In o w.graph → is_unfreed w.freed o ≡ true → In o (objects_in_use (all_shown w))
+pub shown_used : (w : World) (o : ObjectParts) → IsOrderly w → In o w.graph → is_unfreed w.freed o ≡ true → In o (objects_in_use (all_shown w))
 shown_used w o lawful there unfreed =
     let images : List (List SlotParts) = all_shown w in
     let page : ℕ = o.name.page in
-    let at = each_in (λ (x : Object). IsPlaced w.pages (slots_of w) x.name) w.graph o lawful.placed there in
+    let at = each_in (λ (x : ObjectParts). IsPlaced w.pages (slots_of w) x.name) w.graph o lawful.placed there in
     let m = shows_object (slots_of w page) (fields_of w page) w.graph w.freed o (one_each w.graph w.freed lawful.counted lawful.last) there unfreed at.1 in
     let within : page < length images = subst (λ (n : ℕ). page < n) (sym (length-map_below (shown w) w.pages)) at.0 in
     flat_in (λ (page : ℕ). objects_of page (get_or images page [])) (below (length images)) page o (in_below (length images) page within)
     (subst (λ (image : List SlotParts). In o (objects_of page image)) (sym (page_shown w page at.0)) m)
 
-pub unfreed_are_shown : (w : World) (o : Object) → IsOrderly w → In o (unfreed w) ↔ In o (objects_in_use (all_shown w))
+pub unfreed_are_shown : (w : World) (o : ObjectParts) → IsOrderly w → In o (unfreed w) ↔ In o (objects_in_use (all_shown w))
 unfreed_are_shown w o lawful = (
   λ m. let a = in_filter (is_unfreed w.freed) w.graph o m in shown_used w o lawful a.0 a.1,
   λ m. let s = used_shown w o m in filter_in (is_unfreed w.freed) w.graph o s.there s.unfreed,
@@ -87,8 +87,8 @@ shows_root w lawful =
 
 pub shows_whole : (w : World) → IsLawful w → IsWhole (all_shown w)
 shows_whole w lawful = λ name target reached refers_to.
-    let used : List Object = objects_in_use (all_shown w) in
-    let sub : (o : Object) → In o used → In o w.graph = λ o m. (used_shown w o m).there in
+    let used : List ObjectParts = objects_in_use (all_shown w) in
+    let sub : (o : ObjectParts) → In o used → In o w.graph = λ o m. (used_shown w o m).there in
     let r = more_reached used w.graph sub (root_name ∷ []) name reached in
     let step = more_refers used w.graph sub name target refers_to in
     let there = lawful.orderly.whole name target r step in
@@ -107,17 +107,17 @@ unfolding shown_of
 length_shown w page = length-map_below (shown_slot (fields_of w page) w.graph w.freed page) (slots_of w page)
 
 -- what is known of the unfreed objects of a place
-record IsNamed (fields : ℕ) (o : Object) : Type 0 where
+record IsNamed (fields : ℕ) (o : ObjectParts) : Type 0 where
   some : 0 < o.name.generation
   width : length o.refs ≡ fields
 
-slot_right : (fields names : ℕ) (os : List Object) → ((o : Object) → In o os → IsNamed fields o) → IsSlot fields (slot_with fields os names)
+slot_right : (fields names : ℕ) (os : List ObjectParts) → ((o : ObjectParts) → In o os → IsNamed fields o) → IsSlot fields (slot_with fields os names)
 slot_right fields names [] h = record { named = λ e. absurd cc; number = λ e. refl; refs = λ e. refl; width = length-replicate fields None }
 slot_right fields names (o ∷ os) h =
     let a = h o (inl refl) in
     record { named = λ e. a.some; number = λ e. absurd cc; refs = λ e. absurd cc; width = a.width }
 
-generation_some : (graph : List Object) (page slot : ℕ) (o : Object) → CountsUp graph → In o (objects_at graph page slot) → 0 < o.name.generation
+generation_some : (graph : List ObjectParts) (page slot : ℕ) (o : ObjectParts) → CountsUp graph → In o (objects_at graph page slot) → 0 < o.name.generation
 generation_some graph page slot o counts m =
     let g : In o.name.generation (map suc (below (length (objects_at graph page slot)))) =
     subst (λ (l : List ℕ). In o.name.generation l) (counts page slot) (map_in generation_of (objects_at graph page slot) o m) in
@@ -125,10 +125,10 @@ generation_some graph page slot o counts m =
     let e : o.name.generation ≡ suc a.0 = a.2 in
     omega (arith, e)
 
-named_at : (w : World) (page slot : ℕ) (o : Object) → IsOrderly w → HaveFields (fields_of w) w.graph → In o (unfreed_at w.graph w.freed page slot) → IsNamed (fields_of w page) o
+named_at : (w : World) (page slot : ℕ) (o : ObjectParts) → IsOrderly w → HaveFields (fields_of w) w.graph → In o (unfreed_at w.graph w.freed page slot) → IsNamed (fields_of w page) o
 named_at w page slot o lawful fields m =
     let a = in_filter (is_unfreed w.freed) (objects_at w.graph page slot) o m in
-    let b = in_filter (λ (x : Object). is_at page slot x.name) w.graph o a.0 in
+    let b = in_filter (λ (x : ObjectParts). is_at page slot x.name) w.graph o a.0 in
     let on : o.name.page ≡ page = eqb-true o.name.page page (and_parts (o.name.page == page) (o.name.slot == slot) b.1).0 in
     record { some = generation_some w.graph page slot o lawful.counted a.0; width = each_in (HasFields (fields_of w)) w.graph o fields b.0 ∙ ap (fields_of w) on }
 
@@ -144,16 +144,16 @@ shows_images w lawful fields =
 
 -- ---- the names
 
-slot_generation : (fields names : ℕ) (os : List Object) → ((o : Object) → In o os → o.name.generation ≡ names) → (slot_with fields os names).generation ≡ names
+slot_generation : (fields names : ℕ) (os : List ObjectParts) → ((o : ObjectParts) → In o os → o.name.generation ≡ names) → (slot_with fields os names).generation ≡ names
 slot_generation fields names [] h = refl
 slot_generation fields names (o ∷ os) h = h o (inl refl)
 
 -- a place that isn't of the store has no names
 none_past : (w : World) (page slot : ℕ) → IsOrderly w → ¬ ((page < w.pages) × (slot < slots_of w page)) → objects_at w.graph page slot ≡ []
-none_past w page slot lawful past = filter_nothing (λ (o : Object). is_at page slot o.name) w.graph (λ o m. elim (cases_Bool (is_at page slot o.name)) [
+none_past w page slot lawful past = filter_nothing (λ (o : ObjectParts). is_at page slot o.name) w.graph (λ o m. elim (cases_Bool (is_at page slot o.name)) [
   | inr e ↦ e
   | inl e ↦
-      let placed = each_in (λ (o : Object). IsPlaced w.pages (slots_of w) o.name) w.graph o lawful.placed m in
+      let placed = each_in (λ (o : ObjectParts). IsPlaced w.pages (slots_of w) o.name) w.graph o lawful.placed m in
       let at = and_parts (o.name.page == page) (o.name.slot == slot) e in
       let p = eqb-true o.name.page page at.0 in
       let s = eqb-true o.name.slot slot at.1 in

@@ -25,7 +25,7 @@ from_digits (c ∷ cs) d = (omega (arith, digit_from_value c d.0), from_digits c
 pub decimal_digits : (n : ℕ) → n < 2 ^ 64 → AreDigits (decimal n)
 decimal_digits n h = from_digits (decimal n) (decimal_is_IsNumeral n h).0.1
 
-digits_then : (ds es xs ys : List ℕ) → AreDigits ds → AreDigits es → StartsLow xs → StartsLow ys → ds ++ xs ≡ es ++ ys → (ds ≡ es) × (xs ≡ ys)
+pub digits_then : (ds es xs ys : List ℕ) → AreDigits ds → AreDigits es → StartsLow xs → StartsLow ys → ds ++ xs ≡ es ++ ys → (ds ≡ es) × (xs ≡ ys)
 digits_then [] [] xs ys d e x y same = (refl, same)
 digits_then [] (c ∷ cs) xs ys d e x y same = let low : StartsLow (c ∷ (cs ++ ys)) = subst StartsLow same x in let high = e.0 in absurd (omega arith)
 digits_then (c ∷ cs) [] xs ys d e x y same = let low : StartsLow (c ∷ (cs ++ xs)) = subst StartsLow (sym same) y in let high = d.0 in absurd (omega arith)

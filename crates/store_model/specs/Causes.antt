@@ -2,14 +2,14 @@
 use Rattle.std.specs.Prelude.{ℕ, ◌+◌, Bool, true, false, not, ◌&&◌, ◌||◌, ◌==◌, Option, Some, None, is_some, is_none, List, [], ◌∷◌, length, map, filter, find, slice_get, unwrap_or, option_map, option_and_then, nat_lt, nat_le}
 use Rattle.std.specs.List.{list_any}
 use Rattle.object_graph.specs.NameParts.{NameParts}
-use Rattle.object_graph.specs.declared.names.Object.{Object}
+use Rattle.object_graph.specs.ObjectParts.{ObjectParts}
 use Rattle.object_graph.specs.declared.calls.Phase.{Phase}
 use Rattle.object_graph.specs.declared.calls.Phase.TheVariants.{Copying, Closed, Sweeping}
 use Rattle.object_graph.specs.declared.calls.Call.{Call}
 use Rattle.object_graph.specs.declared.calls.Call.TheVariants.{Begin, Get, Number, Set, Put, New, Commit, Abort, OpenCut, Copy, HandIn, Close, Mark, Sweep, EndCut, DropCut, Reopen}
 use Rattle.object_graph.specs.declared.calls.Refusal.{Refusal}
 use Rattle.object_graph.specs.declared.calls.Refusal.TheVariants.{NotOpen, Stranger, BadField, NoPage, Busy, TooWide, KnowsTooMany, PageFull, AlreadyOpen, TooMany, CutThere, NoCut, WrongPhase, AlreadyCopied, Uncopied, OtherCut, AlreadySwept, Unswept, Spent, Broken, Memory}
-use Rattle.store_model.specs.Limits.{most_written, most_known, most_counted, last_generation}
+use Rattle.object_graph.specs.declared.limits.TheConstants.{MOST_OPEN, MOST_WRITTEN, MOST_KNOWN, MOST_COUNTED, LAST_GENERATION}
 use Rattle.object_graph.specs.Graphs.{object_named, has_name, is_at, objects_at}
 use Rattle.object_graph.specs.Slots.{below, least}
 use Rattle.store_model.specs.Worlds.{World, Transaction, OpenedCut, Note, marks, slots_of, fields_of, find_transaction, transaction, is_unfreed, view}
@@ -52,7 +52,7 @@ number_seen w number name = unwrap_or (option_map (λ o. o.number) (object_named
 -- a slot that a transaction can't take: an unfreed object stands there, its own object does, or the last name was given
 abbrev pub is_occupied : World → ℕ → ℕ → ℕ → Bool
 is_occupied w number page slot =
-    list_any (λ o. is_unfreed w.freed o || (o.name.generation == last_generation)) (objects_at w.graph page slot)
+    list_any (λ o. is_unfreed w.freed o || (o.name.generation == LAST_GENERATION)) (objects_at w.graph page slot)
     || list_any (is_at page slot) (transaction w number).own
 
 -- the least slot of a page that a transaction can take
@@ -60,7 +60,7 @@ abbrev pub free_slot : World → ℕ → ℕ → Option ℕ
 free_slot w number page = find (λ slot. not (is_occupied w number page slot)) (below (slots_of w page))
 
 -- the name that is new at a slot
-abbrev pub name_at : List Object → ℕ → ℕ → NameParts
+abbrev pub name_at : List ObjectParts → ℕ → ℕ → NameParts
 name_at graph page slot = record { page = page; slot = slot; generation = 1 + length (objects_at graph page slot) }
 
 -- the name that a transaction is given for a new object
@@ -90,22 +90,22 @@ no_page w page = when (not (nat_lt page w.pages)) NoPage
 abbrev pub too_wide : World → ℕ → ℕ → Option Refusal
 too_wide w number page =
     let written = (transaction w number).pages_written in
-    when (nat_le most_written (length written) && not (has_page written page)) TooWide
+    when (nat_le MOST_WRITTEN (length written) && not (has_page written page)) TooWide
 
 abbrev pub knows_too_many : World → ℕ → Option Refusal
-knows_too_many w number = when (nat_le most_known (length (transaction w number).known)) KnowsTooMany
+knows_too_many w number = when (nat_le MOST_KNOWN (length (transaction w number).known)) KnowsTooMany
 
 -- the answer would add a name to those known, and there is no room for it
 abbrev pub knows_too_many_for : World → ℕ → Option NameParts → Option Refusal
 knows_too_many_for w number None = None
 knows_too_many_for w number (Some target) =
-    when (nat_le most_known (length (transaction w number).known) && not (has_name (transaction w number).known target)) KnowsTooMany
+    when (nat_le MOST_KNOWN (length (transaction w number).known) && not (has_name (transaction w number).known target)) KnowsTooMany
 
 abbrev pub page_full : World → ℕ → ℕ → Option Refusal
 page_full w number page = when (is_none (free_slot w number page)) (PageFull page)
 
 abbrev pub spent : ℕ → Option Refusal
-spent count = when (nat_le most_counted count) (Spent count)
+spent count = when (nat_le MOST_COUNTED count) (Spent count)
 
 abbrev pub cut_there : World → Option Refusal
 cut_there w = option_map (λ cut. CutThere cut.number) w.cut
@@ -159,7 +159,7 @@ wrong_marks cut (Some number) = other_cut cut number
 
 -- the causes of a call, in their order
 abbrev pub causes : World → Call → Note → List (Option Refusal)
-causes w (Begin t) note = broken w ∷ when (is_some (find_transaction w t)) AlreadyOpen ∷ when (nat_le w.open_limit (length w.transactions)) TooMany ∷ []
+causes w (Begin t) note = broken w ∷ when (is_some (find_transaction w t)) AlreadyOpen ∷ when (nat_le MOST_OPEN (length w.transactions)) TooMany ∷ []
 causes w (Get t name field) note =
     broken w ∷ not_open w t ∷ stranger w t name ∷ bad_field w name field ∷ busy_to_read w t name.page
     ∷ knows_too_many_for w t (field_seen w t name field) ∷ []

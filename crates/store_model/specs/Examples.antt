@@ -1,14 +1,16 @@
--- Worked scripts with their replies, as histories; the last five are no histories of the store.
-use Rattle.std.specs.Prelude.{ℕ, ◌++◌, Some, None, List, [], ◌∷◌}
+-- Worked scripts with their replies, as histories; the last ones are no histories of the store.
+use Rattle.std.specs.Prelude.{ℕ, ◌++◌, Some, None, List, [], ◌∷◌, map}
 use Rattle.object_graph.specs.NameParts.{NameParts}
 use Rattle.object_graph.specs.declared.calls.Phase.TheVariants.{Closed}
 use Rattle.object_graph.specs.declared.calls.Call.{Call}
-use Rattle.object_graph.specs.declared.calls.Call.TheVariants.{Begin, Get, Number, Set, Put, New, Commit, Abort, OpenCut, Copy, Close, Mark, Sweep, EndCut, DropCut, Reopen}
+use Rattle.object_graph.specs.declared.calls.Call.TheVariants.{Begin, Get, Number, Set, Put, New, Commit, Abort, OpenCut, Copy, HandIn, Close, Mark, Sweep, EndCut, DropCut, Reopen}
 use Rattle.object_graph.specs.declared.calls.Reply.{Reply}
 use Rattle.object_graph.specs.declared.calls.Reply.TheVariants.{Done, Ref, Num, Made, Committed, Cut, Freed, Reopened, Refused}
 use Rattle.object_graph.specs.declared.calls.Refusal.{Refusal}
-use Rattle.object_graph.specs.declared.calls.Refusal.TheVariants.{NotOpen, Stranger, BadField, NoPage, Busy, PageFull, AlreadyOpen, TooMany, CutThere, NoCut, WrongPhase, AlreadyCopied, Uncopied, AlreadySwept, Unswept, DiskFault, Broken}
-use Rattle.store_model.specs.Worlds.{World, Note, nothing, faults, images, marks, found, Event, fresh_world}
+use Rattle.object_graph.specs.declared.calls.Refusal.TheVariants.{NotOpen, Stranger, BadField, NoPage, Busy, PageFull, AlreadyOpen, TooMany, CutThere, NoCut, WrongPhase, AlreadyCopied, Uncopied, AlreadySwept, Unswept, DiskFault, Broken, OtherCut, Memory}
+use Rattle.object_graph.specs.declared.limits.TheConstants.{MOST_OPEN}
+use Rattle.object_graph.specs.Slots.{below}
+use Rattle.store_model.specs.Worlds.{Note, nothing, faults, images, marks, found, Event}
 
 -- ---- words of the scripts
 
@@ -31,10 +33,6 @@ refused call why = said call (Refused why)
 abbrev pub closing : List Event
 closing = noted images Close Done ∷ noted (marks (Some 1)) (Mark 1) Done ∷ []
 
--- the world of a fresh store in which 64 transactions may be open
-abbrev pub roomy_world : ℕ → World
-roomy_world pages = record (fresh_world pages) { open_limit = 64 }
-
 -- ---- transactions
 
 abbrev pub a_number_is_put : List Event
@@ -42,10 +40,14 @@ a_number_is_put =
     said (Begin 1) Done ∷ said (Number 1 root) (Num 0) ∷ said (Put 1 root 7) Done ∷ said (Number 1 root) (Num 7) ∷ said (Commit 1) (Committed 1)
     ∷ said (Begin 2) Done ∷ said (Number 2 root) (Num 7) ∷ []
 
-abbrev pub one_at_a_time : List Event
-one_at_a_time =
-    refused (Number 1 root) NotOpen ∷ said (Begin 1) Done ∷ refused (Begin 1) AlreadyOpen ∷ refused (Begin 2) TooMany ∷ refused (Number 1 (name_of 1 0 1)) Stranger
-    ∷ refused (Commit 2) NotOpen ∷ said (Commit 1) (Committed 1) ∷ []
+abbrev pub a_transaction_opens_once : List Event
+a_transaction_opens_once =
+    refused (Number 1 root) NotOpen ∷ said (Begin 1) Done ∷ refused (Begin 1) AlreadyOpen ∷ refused (Number 1 (name_of 1 0 1)) Stranger ∷ refused (Commit 2) NotOpen
+    ∷ said (Commit 1) (Committed 1) ∷ []
+
+-- as many transactions as may be open at once, and one more
+abbrev pub too_many_begin : List Event
+too_many_begin = map (λ number. said (Begin number) Done) (below MOST_OPEN) ++ refused (Begin MOST_OPEN) TooMany ∷ []
 
 -- the first four events of two transactions that read the root
 abbrev pub two_readers : List Event
@@ -118,6 +120,18 @@ what_is_born_in_a_cut_outlives_it =
     ∷ said OpenCut (Cut 2) ∷ said (Copy 0) Done ∷ said (Copy 1) Done ∷ noted images Close Done ∷ noted (marks (Some 2)) (Mark 1) Done ∷ said (Sweep 0) (Freed 0)
     ∷ said (Sweep 1) (Freed 1) ∷ said EndCut Done ∷ []
 
+-- the root refers to an object
+abbrev pub an_object_is_linked : List Event
+an_object_is_linked = said (Begin 1) Done ∷ said (New 1 1) (Made (name_of 1 0 1)) ∷ said (Set 1 root 0 (Some (name_of 1 0 1))) Done ∷ said (Commit 1) (Committed 1) ∷ []
+
+-- it is unlinked after the root's page was copied: the next cut frees it
+abbrev pub what_is_unlinked_after_its_copy_outlives_the_cut : List Event
+what_is_unlinked_after_its_copy_outlives_the_cut =
+    an_object_is_linked ++ said OpenCut (Cut 1) ∷ said (Copy 0) Done ∷ said (Begin 2) Done ∷ said (Set 2 root 0 None) Done ∷ said (Commit 2) (Committed 2) ∷ said (Copy 1) Done
+    ∷ (closing ++ said (Sweep 0) (Freed 0) ∷ said (Sweep 1) (Freed 0) ∷ said EndCut Done
+    ∷ said OpenCut (Cut 2) ∷ said (Copy 0) Done ∷ said (Copy 1) Done ∷ noted images Close Done ∷ noted (marks (Some 2)) (Mark 1) Done ∷ said (Sweep 0) (Freed 0)
+    ∷ said (Sweep 1) (Freed 1) ∷ said EndCut Done ∷ [])
+
 abbrev pub a_locked_page_is_swept : List Event
 a_locked_page_is_swept =
     said (Begin 1) Done ∷ said (New 1 1) (Made (name_of 1 0 1)) ∷ said (Commit 1) (Committed 1)
@@ -159,6 +173,26 @@ a_sweep_in_doubt_may_be_done =
     a_chain_is_unlinked ++ (a_cut_is_marked ++ said (Sweep 0) (Freed 0) ∷ noted (faults 1) (Sweep 1) (Refused DiskFault) ∷ refused EndCut (Broken 1)
     ∷ noted (found (name_of 1 0 1 ∷ name_of 1 1 1 ∷ name_of 1 2 1 ∷ [])) Reopen (Reopened 2) ∷ said (Begin 3) Done ∷ said (New 3 1) (Made (name_of 1 0 2)) ∷ [])
 
+-- a reopening drops the cut, and the cuts are counted on
+abbrev pub a_reopening_drops_the_cut : List Event
+a_reopening_drops_the_cut = said OpenCut (Cut 1) ∷ noted (found []) Reopen (Reopened 0) ∷ refused (Copy 0) NoCut ∷ said OpenCut (Cut 2) ∷ []
+
+-- a second fault leaves the first one's doubt
+abbrev pub a_fault_in_a_reopening_keeps_the_doubt : List Event
+a_fault_in_a_reopening_keeps_the_doubt =
+    said (Begin 1) Done ∷ said (Put 1 root 5) Done ∷ noted (faults 1) (Commit 1) (Refused DiskFault) ∷ noted (faults 2) Reopen (Refused DiskFault)
+    ∷ refused (Begin 2) (Broken 2) ∷ noted (found []) Reopen (Reopened 1) ∷ said (Begin 2) Done ∷ said (Number 2 root) (Num 5) ∷ []
+
+abbrev pub an_aborted_name_is_given_again : List Event
+an_aborted_name_is_given_again =
+    said (Begin 1) Done ∷ said (New 1 1) (Made (name_of 1 0 1)) ∷ said (Abort 1) Done ∷ said (Begin 2) Done ∷ said (New 2 1) (Made (name_of 1 0 1)) ∷ []
+
+-- copies and marks of an earlier cut, and marks for which there was no memory
+abbrev pub another_cut_is_told : List Event
+another_cut_is_told =
+    said OpenCut (Cut 1) ∷ said DropCut Done ∷ said OpenCut (Cut 2) ∷ refused (HandIn 0 1 0) (OtherCut 2) ∷ said (HandIn 0 2 0) Done ∷ said (Copy 1) Done ∷ noted images Close Done
+    ∷ noted (marks (Some 1)) (Mark 1) (Refused (OtherCut 2)) ∷ noted (marks None) (Mark 1) (Refused Memory) ∷ noted (marks (Some 2)) (Mark 1) Done ∷ []
+
 -- ---- no histories
 
 -- the holder is the reader, not the caller
@@ -180,3 +214,11 @@ a_commit_is_counted_twice = said (Begin 1) Done ∷ said (Commit 1) (Committed 2
 -- the name is a stranger's before the field is bad
 abbrev pub a_refusal_out_of_order : List Event
 a_refusal_out_of_order = said (Begin 1) Done ∷ refused (Get 1 (name_of 1 0 1) 4) BadField ∷ []
+
+-- the root refers to it
+abbrev pub a_reached_object_is_freed : List Event
+a_reached_object_is_freed = an_object_is_linked ++ (a_cut_is_marked ++ said (Sweep 1) (Freed 1) ∷ [])
+
+-- the other transaction still holds its lock
+abbrev pub a_conflict_is_overlooked : List Event
+a_conflict_is_overlooked = two_readers ++ said (Put 2 root 5) Done ∷ []

@@ -4,7 +4,7 @@ use Rattle.std.specs.List.{flat_map}
 use Rattle.object_graph.specs.NameParts.{NameParts}
 use Rattle.object_graph.specs.SlotParts.{SlotParts}
 use Rattle.object_graph.specs.Names.{root_name}
-use Rattle.object_graph.specs.declared.names.Object.{Object}
+use Rattle.object_graph.specs.ObjectParts.{ObjectParts}
 use Rattle.object_graph.specs.Slots.{below}
 use Rattle.store_model.specs.Worlds.{World, no_doubt, slots_of, fields_of, new_object}
 use Rattle.store_model.specs.Images.{no_slot, objects_in, of_slots}
@@ -21,7 +21,7 @@ abbrev pub of_places : {A : Type 0} → (ℕ → ℕ → SlotParts → List A) �
 of_places f images = flat_map (λ page. of_slots (f page) (slice_index_or images page [])) (below (length images))
 
 -- the objects in use
-abbrev pub objects_in_use : List (List SlotParts) → List Object
+abbrev pub objects_in_use : List (List SlotParts) → List ObjectParts
 objects_in_use images = of_places objects_in images
 
 -- the slot is in use under this generation
@@ -50,14 +50,13 @@ abbrev pub freed_in : ℕ → ℕ → SlotParts → List NameParts
 freed_in page slot s = map (freed_name page slot) (below (freed_count s))
 
 -- all objects of a place, oldest first: the freed ones as they were made, then the one in use
-abbrev pub all_objects_in : World → ℕ → ℕ → SlotParts → List Object
+abbrev pub all_objects_in : World → ℕ → ℕ → SlotParts → List ObjectParts
 all_objects_in w page slot s = map (new_object w) (freed_in page slot s) ++ objects_in page slot s
 
 -- a store of so many pages, before anything is in it
-abbrev pub bare_world : ℕ → ℕ → ℕ → World
-bare_world open_limit commits pages = record {
+abbrev pub bare_world : ℕ → ℕ → World
+bare_world commits pages = record {
   pages = pages;
-  open_limit = open_limit;
   graph = [];
   commits = commits;
   freed = [];
@@ -73,8 +72,8 @@ abbrev pub with_images : World → List (List SlotParts) → World
 with_images w images = record w { graph = of_places (all_objects_in w) images; freed = of_places freed_in images }
 
 -- the world that a store with these images and so many commits opens to
-abbrev pub world_of : ℕ → ℕ → List (List SlotParts) → World
-world_of open_limit commits images = with_images (bare_world open_limit commits (length images)) images
+abbrev pub world_of : ℕ → List (List SlotParts) → World
+world_of commits images = with_images (bare_world commits (length images)) images
 
 -- ---- images that a store may have
 
@@ -92,7 +91,7 @@ pub record AreImagesOf (slots_on fields_on : ℕ → ℕ) (images : List (List S
 
 -- so it is in the store that opens to them
 abbrev pub AreImages : List (List SlotParts) → Type 0
-AreImages images = AreImagesOf (slots_of (world_of 0 0 images)) (fields_of (world_of 0 0 images)) images
+AreImages images = AreImagesOf (slots_of (world_of 0 images)) (fields_of (world_of 0 images)) images
 
 -- the root is in use
 abbrev pub has_root : List (List SlotParts) → Bool

@@ -1,9 +1,8 @@
 -- Histories, and which histories follow a script.
-use Rattle.std.specs.Prelude.{◌≡◌, ℕ, Bool, true, false, ◌==◌, List, [], ◌∷◌, ◌++◌, map, filter, MatchBool, IfSome, IsSomeAnd}
+use Rattle.std.specs.Prelude.{◌≡◌, ℕ, Bool, true, false, List, [], ◌∷◌, ◌++◌, map, MatchBool, IfSome, IsSomeAnd}
 use Rattle.std.specs.List.{AllByRecursion}
 use Rattle.object_graph.specs.declared.calls.Call.{Call}
 use Rattle.object_graph.specs.declared.calls.Call.TheVariants.{OpenCut, Copy, Close, Mark, Sweep, EndCut}
-use Rattle.object_graph.specs.declared.calls.Entry.{Entry}
 use Rattle.object_graph.specs.declared.calls.Reply.{Reply}
 use Rattle.object_graph.specs.declared.calls.Reply.TheVariants.{Refused}
 use Rattle.object_graph.specs.Slots.{below}
@@ -22,12 +21,6 @@ abbrev pub IsLegal : World → List Event → Type 0
 IsLegal w [] = Unit {0}
 IsLegal w (e ∷ events) = Allows w e × IsLegal (next w e) events
 
--- one event leads from a world to the next, under some note
-pub record Moves (w : World) (entry : Entry) (after : World) : Type 0 where
-  pub note : Note
-  pub allowed : Allows w (record { entry = entry; note = note })
-  pub is : after ≡ next w (record { entry = entry; note = note })
-
 -- the calls of a collection, over a store of so many pages
 abbrev pub collection : ℕ → ℕ → List Call
 collection pages workers =
@@ -43,18 +36,16 @@ Makes [] events rest = events ≡ rest
 Makes (call ∷ calls) [] rest = ⊥
 Makes (call ∷ calls) (e ∷ events) rest = (e.entry.call ≡ call) × MatchBool (is_refused e.entry.reply) (events ≡ rest) (Makes calls events rest)
 
+-- the events are the first ones of such a line's, all of them perhaps
+abbrev pub Starts : List Call → List Event → Type 0
+Starts calls [] = Unit {0}
+Starts [] (e ∷ events) = ⊥
+Starts (call ∷ calls) (e ∷ events) = (e.entry.call ≡ call) × MatchBool (is_refused e.entry.reply) (events ≡ []) (Starts calls events)
+
 -- the events are those of these lists of calls, one for each line, in order
 abbrev pub Follows : List (List Call) → List Event → Type 0
 Follows [] events = events ≡ []
 Follows (calls ∷ lines) events = (rest : List Event) × Makes calls events rest × Follows lines rest
-
--- the events of one script: all are of lane 1
-abbrev pub IsRun : List Event → Type 0
-IsRun events = AllByRecursion (λ e. e.entry.lane ≡ 1) events
-
--- the events of a lane
-abbrev pub of_lane : ℕ → List Event → List Event
-of_lane lane events = filter (λ e. e.entry.lane == lane) events
 
 -- marks are none, or those of the cut that is there
 abbrev pub HasPresentMarks : World → Call → Note → Type 0
@@ -65,3 +56,8 @@ HasPresentMarks w _ note = Unit {0}
 abbrev pub HavePresentMarks : World → List Event → Type 0
 HavePresentMarks w [] = Unit {0}
 HavePresentMarks w (e ∷ events) = HasPresentMarks w e.entry.call e.note × HavePresentMarks (next w e) events
+
+-- the events of one script: all are of lane 1, and each mark gives marks of the cut that is there
+pub record IsRun (w : World) (events : List Event) : Type 0 where
+  pub lane : AllByRecursion (λ e. e.entry.lane ≡ 1) events
+  pub marks : HavePresentMarks w events

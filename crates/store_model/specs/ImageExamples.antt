@@ -2,7 +2,7 @@
 use Rattle.std.specs.Prelude.{ℕ, ◌-◌, true, false, Option, Some, None, List, [], ◌∷◌, ◌++◌, length, replicate}
 use Rattle.object_graph.specs.NameParts.{NameParts}
 use Rattle.object_graph.specs.SlotParts.{SlotParts}
-use Rattle.object_graph.specs.declared.names.Object.{Object}
+use Rattle.object_graph.specs.ObjectParts.{ObjectParts}
 use Rattle.object_graph.specs.declared.calls.Call.TheVariants.{Begin, Get, New, Commit}
 use Rattle.object_graph.specs.declared.calls.Reply.TheVariants.{Done, Ref, Made, Committed}
 use Rattle.object_graph.specs.Graphs.{object_fields, fresh_object}
@@ -30,16 +30,15 @@ no_refs = replicate object_fields None
 abbrev pub small_images : List (List SlotParts)
 small_images = page_of (used_slot 1 5 to_second ∷ []) ∷ page_of (used_slot 2 7 no_refs ∷ free_slot 1 ∷ used_slot 1 9 no_refs ∷ []) ∷ []
 
-abbrev pub object : NameParts → ℕ → List (Option NameParts) → Object
+abbrev pub object : NameParts → ℕ → List (Option NameParts) → ObjectParts
 object name number refs = record { name = name; number = number; refs = refs }
 
-abbrev pub blank : NameParts → Object
+abbrev pub blank : NameParts → ObjectParts
 blank name = fresh_object object_fields name
 
 abbrev pub small_world : World
 small_world = record {
   pages = 2;
-  open_limit = 64;
   graph = object root 5 to_second ∷ blank (name_of 1 0 1) ∷ object (name_of 1 0 2) 7 no_refs ∷ blank (name_of 1 1 1) ∷ object (name_of 1 2 1) 9 no_refs ∷ [];
   commits = 3;
   freed = name_of 1 0 1 ∷ name_of 1 1 1 ∷ [];

@@ -2,11 +2,12 @@ pub mod Worlds
 pub mod Causes
 pub mod Replies
 pub mod Steps
+pub mod States
 pub mod Histories
+pub mod Faults
 pub mod Lawful
 pub mod Images
 pub mod FromImages
-pub mod Limits
 pub mod Texts
 pub mod Examples
 pub mod ImageExamples

@@ -1,7 +1,7 @@
 -- The world after an event.
 use Rattle.std.specs.Prelude.{ℕ, ◌+◌, Bool, true, false, not, ◌==◌, Option, Some, None, List, [], ◌∷◌, ◌++◌, map, filter, option_map, if◌then◌else◌}
 use Rattle.object_graph.specs.NameParts.{NameParts}
-use Rattle.object_graph.specs.declared.names.Object.{Object}
+use Rattle.object_graph.specs.ObjectParts.{ObjectParts}
 use Rattle.object_graph.specs.declared.calls.Phase.TheVariants.{Copying, Closed, Sweeping}
 use Rattle.object_graph.specs.declared.calls.Call.{Call}
 use Rattle.object_graph.specs.declared.calls.Call.TheVariants.{Begin, Get, Number, Set, Put, New, Commit, Abort, OpenCut, Copy, HandIn, Close, Mark, Sweep, EndCut, DropCut, Reopen}
@@ -48,7 +48,7 @@ committed w number = record w { graph = view w (transaction w number); commits =
 
 -- a cut opens
 abbrev pub opening_of : World → Opening
-opening_of w = record { graph = w.graph; freed = w.freed; starts = starts w }
+opening_of w = record { graph = w.graph; commits = w.commits; freed = w.freed; starts = starts w }
 
 abbrev pub opened : World → World
 opened w = record w {
@@ -69,7 +69,7 @@ abbrev pub commits_found : World → Reply → ℕ
 commits_found w (Reopened commits) = commits
 commits_found w _ = w.commits
 
-abbrev pub graph_in_doubt : World → Doubt → List Object
+abbrev pub graph_in_doubt : World → Doubt → List ObjectParts
 graph_in_doubt w (commit_in_doubt t) = view w (transaction w t)
 graph_in_doubt w _ = w.graph
 

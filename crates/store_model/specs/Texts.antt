@@ -1,7 +1,8 @@
 -- The texts of calls, replies, entries and histories.
-use Rattle.std.specs.Prelude.{ℕ, ◌<◌, ◌^◌, Bool, true, false, Option, Some, None, List, [], ◌∷◌, ◌++◌, codes, flat_map, decimal}
+use Rattle.std.specs.Prelude.{ℕ, ◌<◌, ◌≤◌, ◌^◌, Bool, true, false, Option, Some, None, List, [], ◌∷◌, ◌++◌, codes, map, flat_map, decimal}
 use Rattle.std.specs.List.{AllByRecursion}
-use Rattle.object_graph.specs.NameParts.{NameParts}
+use Rattle.object_graph.specs.NameParts.{NameParts, IsName}
+use Rattle.object_graph.specs.declared.limits.TheConstants.{MOST_SLOTS}
 use Rattle.object_graph.specs.Slots.{slots_in}
 use Rattle.object_graph.specs.declared.calls.Call.{Call}
 use Rattle.object_graph.specs.declared.calls.Call.TheVariants.{Begin, Get, Number, Set, Put, New, Commit, Abort, OpenCut, Copy, HandIn, Close, Mark, Sweep, EndCut, DropCut, Reopen}
@@ -100,6 +101,11 @@ abbrev pub is_freeing : Reply → Bool
 is_freeing (Freed slots) = true
 is_freeing _ = false
 
+-- what is freed is a set of slots
+abbrev pub FreesSlots : Reply → Type 0
+FreesSlots (Freed slots) = slots < 2 ^ MOST_SLOTS
+FreesSlots _ = Unit {0}
+
 -- each number fits 64 bits
 abbrev pub AreShort : List ℕ → Type 0
 AreShort numbers = AllByRecursion (λ n. n < 2 ^ 64) numbers
@@ -112,49 +118,80 @@ event_text e = reply_text e.entry.reply ++ 10 ∷ []
 abbrev pub history_text : List Event → List ℕ
 history_text = flat_map event_text
 
--- a call's line; a reference is set to none by a word of its own
+-- a word of a line: a fixed one, a transaction, page or field, a value, a count of workers or a lane, or a name
+pub data Word : Type 0 where
+  label : List ℕ → Word
+  short : ℕ → Word
+  long : ℕ → Word
+  few : ℕ → Word
+  named : NameParts → Word
+
+abbrev pub word_text : Word → List ℕ
+word_text (label text) = text
+word_text (short n) = decimal n
+word_text (long n) = decimal n
+word_text (few n) = decimal n
+word_text (named name) = name_text name
+
+-- the word is in its range
+abbrev pub IsWord : Word → Type 0
+IsWord (label text) = Unit {0}
+IsWord (short n) = n < 2 ^ 32
+IsWord (long n) = n < 2 ^ 64
+IsWord (few n) = (1 ≤ n) × (n ≤ 16)
+IsWord (named name) = IsName name
+
+-- words parted by single spaces
+abbrev pub joined : List (List ℕ) → List ℕ
+joined [] = []
+joined (word ∷ []) = word
+joined (word ∷ next ∷ words) = word ++ 32 ∷ joined (next ∷ words)
+
+-- the table of the calls' lines; a reference is set to none by a word of its own
+abbrev pub call_words : Call → List Word
+call_words (Begin txn) = label (codes "begin") ∷ short txn ∷ []
+call_words (Get txn name field) = label (codes "get") ∷ short txn ∷ named name ∷ short field ∷ []
+call_words (Number txn name) = label (codes "num") ∷ short txn ∷ named name ∷ []
+call_words (Set txn name field (Some target)) = label (codes "set") ∷ short txn ∷ named name ∷ short field ∷ named target ∷ []
+call_words (Set txn name field None) = label (codes "nil") ∷ short txn ∷ named name ∷ short field ∷ []
+call_words (Put txn name value) = label (codes "put") ∷ short txn ∷ named name ∷ long value ∷ []
+call_words (New txn page) = label (codes "new") ∷ short txn ∷ short page ∷ []
+call_words (Commit txn) = label (codes "commit") ∷ short txn ∷ []
+call_words (Abort txn) = label (codes "abort") ∷ short txn ∷ []
+call_words OpenCut = label (codes "open") ∷ []
+call_words (Copy page) = label (codes "copy") ∷ short page ∷ []
+call_words (HandIn page cut seen) = label (codes "copy") ∷ short page ∷ []
+call_words Close = label (codes "close") ∷ []
+call_words (Mark workers) = label (codes "mark") ∷ few workers ∷ []
+call_words (Sweep page) = label (codes "sweep") ∷ short page ∷ []
+call_words EndCut = label (codes "end") ∷ []
+call_words DropCut = label (codes "drop") ∷ []
+call_words Reopen = label (codes "reopen") ∷ []
+
+-- a call's line
 abbrev pub call_text : Call → List ℕ
-call_text (Begin txn) = codes "begin " ++ decimal txn
-call_text (Get txn name field) = codes "get " ++ (decimal txn ++ (32 ∷ name_text name ++ (32 ∷ decimal field)))
-call_text (Number txn name) = codes "num " ++ (decimal txn ++ (32 ∷ name_text name))
-call_text (Set txn name field None) = codes "nil " ++ (decimal txn ++ (32 ∷ name_text name ++ (32 ∷ decimal field)))
-call_text (Set txn name field (Some target)) = codes "set " ++ (decimal txn ++ (32 ∷ name_text name ++ (32 ∷ decimal field ++ (32 ∷ name_text target))))
-call_text (Put txn name value) = codes "put " ++ (decimal txn ++ (32 ∷ name_text name ++ (32 ∷ decimal value)))
-call_text (New txn page) = codes "new " ++ (decimal txn ++ (32 ∷ decimal page))
-call_text (Commit txn) = codes "commit " ++ decimal txn
-call_text (Abort txn) = codes "abort " ++ decimal txn
-call_text OpenCut = codes "open"
-call_text (Copy page) = codes "copy " ++ decimal page
-call_text (HandIn page cut seen) = codes "copy " ++ decimal page
-call_text Close = codes "close"
-call_text (Mark workers) = codes "mark " ++ decimal workers
-call_text (Sweep page) = codes "sweep " ++ decimal page
-call_text EndCut = codes "end"
-call_text DropCut = codes "drop"
-call_text Reopen = codes "reopen"
+call_text call = joined (map word_text (call_words call))
+
+abbrev pub word_numbers : Word → List ℕ
+word_numbers (label text) = []
+word_numbers (short n) = n ∷ []
+word_numbers (long n) = n ∷ []
+word_numbers (few n) = n ∷ []
+word_numbers (named name) = name.page ∷ name.slot ∷ name.generation ∷ []
 
 -- the numbers in a call, in the order of its text
 abbrev pub call_numbers : Call → List ℕ
-call_numbers (Begin txn) = txn ∷ []
-call_numbers (Get txn name field) = txn ∷ name.page ∷ name.slot ∷ name.generation ∷ field ∷ []
-call_numbers (Number txn name) = txn ∷ name.page ∷ name.slot ∷ name.generation ∷ []
-call_numbers (Set txn name field None) = txn ∷ name.page ∷ name.slot ∷ name.generation ∷ field ∷ []
-call_numbers (Set txn name field (Some target)) = txn ∷ name.page ∷ name.slot ∷ name.generation ∷ field ∷ target.page ∷ target.slot ∷ target.generation ∷ []
-call_numbers (Put txn name value) = txn ∷ name.page ∷ name.slot ∷ name.generation ∷ value ∷ []
-call_numbers (New txn page) = txn ∷ page ∷ []
-call_numbers (Commit txn) = txn ∷ []
-call_numbers (Abort txn) = txn ∷ []
-call_numbers (Copy page) = page ∷ []
-call_numbers (HandIn page cut seen) = page ∷ []
-call_numbers (Mark workers) = workers ∷ []
-call_numbers (Sweep page) = page ∷ []
-call_numbers _ = []
+call_numbers call = flat_map word_numbers (call_words call)
 
 -- the call is a copy that is handed in, whose text is that of a copy
 abbrev pub is_hand_in : Call → Bool
 is_hand_in (HandIn page cut seen) = true
 is_hand_in _ = false
 
--- an entry's line: lane, call and reply
+-- an entry's line with its end: lane, call and reply
 abbrev pub entry_text : Entry → List ℕ
-entry_text e = decimal e.lane ++ (32 ∷ call_text e.call ++ (codes ": " ++ reply_text e.reply))
+entry_text e = decimal e.lane ++ (32 ∷ call_text e.call ++ (codes ": " ++ (reply_text e.reply ++ 10 ∷ [])))
+
+-- what lanes write: the line of each entry
+abbrev pub chronicle_text : List Event → List ℕ
+chronicle_text = flat_map (λ (e : Event). entry_text e.entry)

@@ -3,11 +3,11 @@ use Rattle.std.specs.Prelude.{ℕ, Bool, not, ◌&&◌, ◌==◌, Option, None, 
 use Rattle.std.specs.List.{AllByRecursion}
 use Rattle.object_graph.specs.NameParts.{NameParts}
 use Rattle.object_graph.specs.Names.{root_name}
-use Rattle.object_graph.specs.declared.names.Object.{Object}
+use Rattle.object_graph.specs.ObjectParts.{ObjectParts}
 use Rattle.object_graph.specs.declared.calls.Phase.{Phase}
 use Rattle.object_graph.specs.declared.calls.Entry.{Entry}
-use Rattle.store_model.specs.Limits.{most_open}
-use Rattle.object_graph.specs.Graphs.{fresh_object, fresh_graph, with_number, with_ref, has_name, has_object, IsReachedFrom}
+use Rattle.object_graph.specs.Graphs.{object_fields, fresh_object, fresh_graph, with_number, with_ref, has_name, has_object, IsReachedFrom}
+use Rattle.object_graph.specs.declared.sizes.TheConstants.{SLOTS_PER_PAGE}
 
 -- a write of an open transaction
 pub data Write : Type 0 where
@@ -23,9 +23,10 @@ pub record Transaction : Type 0 where
   pub pages_read : List ℕ
   pub pages_written : List ℕ
 
--- what was committed as the cut opened: the graph, what was freed, and where paths start
+-- what was committed as the cut opened: the graph, the number of commits, what was freed, and where paths start
 pub record Opening : Type 0 where
-  pub graph : List Object
+  pub graph : List ObjectParts
+  pub commits : ℕ
   pub freed : List NameParts
   pub starts : List NameParts
 
@@ -42,11 +43,10 @@ pub data Doubt : Type 0 where
   commit_in_doubt : ℕ → Doubt
   sweep_in_doubt : ℕ → Doubt
 
--- the store: its pages, how many transactions may be open at once, and what changes with its calls
+-- the store: its pages, and what changes with its calls
 pub record World : Type 0 where
   pub pages : ℕ
-  pub open_limit : ℕ
-  pub graph : List Object
+  pub graph : List ObjectParts
   pub commits : ℕ
   pub freed : List NameParts
   pub last_cut : ℕ
@@ -69,18 +69,22 @@ pub record Event : Type 0 where
 
 -- the number of slots of a page
 abbrev pub slots_of : World → ℕ → ℕ
-slots_of w page = 20
+slots_of w page = SLOTS_PER_PAGE
 
 -- the number of references of an object on a page
 abbrev pub fields_of : World → ℕ → ℕ
-fields_of w page = 4
+fields_of w page = object_fields
 
 -- where the paths to what is reached start
 abbrev pub starts : World → List NameParts
 starts w = root_name ∷ []
 
+-- where the paths to what a transaction knows start
+abbrev pub starts_of : Transaction → List NameParts
+starts_of t = root_name ∷ []
+
 -- an object as it is made
-abbrev pub new_object : World → NameParts → Object
+abbrev pub new_object : World → NameParts → ObjectParts
 new_object w name = fresh_object (fields_of w name.page) name
 
 -- a transaction as it begins
@@ -91,7 +95,6 @@ fresh_transaction number = record { number = number; known = root_name ∷ []; o
 abbrev pub fresh_world : ℕ → World
 fresh_world pages = record {
   pages = pages;
-  open_limit = most_open;
   graph = fresh_graph;
   commits = 0;
   freed = [];
@@ -114,24 +117,24 @@ abbrev pub is_freed : World → NameParts → Bool
 is_freed w name = has_name w.freed name
 
 -- the unfreed objects of the graph
-abbrev pub is_unfreed : List NameParts → Object → Bool
+abbrev pub is_unfreed : List NameParts → ObjectParts → Bool
 is_unfreed freed o = not (has_name freed o.name)
 
-abbrev pub unfreed : World → List Object
+abbrev pub unfreed : World → List ObjectParts
 unfreed w = filter (is_unfreed w.freed) w.graph
 
 -- an object after a write
-abbrev pub written_by : Write → Object → Object
+abbrev pub written_by : Write → ObjectParts → ObjectParts
 written_by (link name field target) o = with_ref name field target o
 written_by (assign name value) o = with_number name value o
 
 -- an object with writes laid over it, of which the newest stands first
-abbrev pub with_writes : List Write → Object → Object
+abbrev pub with_writes : List Write → ObjectParts → ObjectParts
 with_writes [] o = o
 with_writes (write ∷ writes) o = written_by write (with_writes writes o)
 
 -- what a transaction sees: the graph with its own objects added and its own writes laid over
-abbrev pub view : World → Transaction → List Object
+abbrev pub view : World → Transaction → List ObjectParts
 view w t = map (with_writes t.writes) (w.graph ++ map (new_object w) t.own)
 
 -- the names that are reached

@@ -2,7 +2,7 @@
 ghost use Rattle.std.specs.Prelude.{◌≡◌, [], ◌∷◌, codes};
 ghost use Rattle.object_graph.specs.declared.calls.Call.TheVariants.{OpenCut, DropCut};
 ghost use Rattle.store_model.specs.Worlds.{fresh_world};
-ghost use Rattle.store_model.specs.Histories.{IsLegal, IsRun, Follows, HavePresentMarks, collection};
+ghost use Rattle.store_model.specs.Histories.{IsLegal, IsRun, Follows, collection};
 ghost use Rattle.store_model.specs.Texts.{history_text};
 ghost use Rattle.store_model.specs.Examples as worked;
 
@@ -12,21 +12,26 @@ pub fn a_number_is_put()
     ensures text { history_text worked.a_number_is_put ≡ codes "ok\nnum 0\nok\nnum 7\ncommit 1\nok\nnum 7\n" }
 {}
 
-/// One transaction is open at a time.
-pub fn one_at_a_time()
-    ensures legal { IsLegal (fresh_world 16) worked.one_at_a_time }
-    ensures text { history_text worked.one_at_a_time ≡ codes "not open\nok\nalready open\ntoo many\nstranger\nnot open\ncommit 1\n" }
+/// A transaction that is open isn't begun again.
+pub fn a_transaction_opens_once()
+    ensures legal { IsLegal (fresh_world 16) worked.a_transaction_opens_once }
+    ensures text { history_text worked.a_transaction_opens_once ≡ codes "not open\nok\nalready open\nstranger\nnot open\ncommit 1\n" }
+{}
+
+/// So many transactions are open at once, and no more.
+pub fn too_many_do_not_begin()
+    ensures { IsLegal (fresh_world 16) worked.too_many_begin }
 {}
 
 /// A page that another transaction read can't be written until that one ends.
 pub fn a_lock_conflict_is_busy()
-    ensures legal { IsLegal (worked.roomy_world 2) worked.a_lock_conflict_is_busy }
+    ensures legal { IsLegal (fresh_world 2) worked.a_lock_conflict_is_busy }
     ensures text { history_text worked.a_lock_conflict_is_busy ≡ codes "ok\nok\nnum 0\nnum 0\nbusy 1\nok\nok\ncommit 1\n" }
 {}
 
 /// A page holds twenty objects. A refusal takes no lock.
 pub fn a_page_fills()
-    ensures legal { IsLegal (worked.roomy_world 2) worked.a_page_fills }
+    ensures legal { IsLegal (fresh_world 2) worked.a_page_fills }
     ensures text { history_text worked.a_page_fills ≡ codes "ok\nnew 1.0.1\nnew 1.1.1\nnew 1.2.1\nnew 1.3.1\nnew 1.4.1\nnew 1.5.1\nnew 1.6.1\nnew 1.7.1\nnew 1.8.1\nnew 1.9.1\nnew 1.10.1\nnew 1.11.1\nnew 1.12.1\nnew 1.13.1\nnew 1.14.1\nnew 1.15.1\nnew 1.16.1\nnew 1.17.1\nnew 1.18.1\nnew 1.19.1\npage full 1\ncommit 1\nok\npage full 1\nok\npage full 1\n" }
 {}
 
@@ -88,8 +93,7 @@ pub fn a_commit_in_doubt_may_be_done()
 pub fn nothing_is_collected()
     ensures legal { IsLegal (fresh_world 2) worked.nothing_is_collected }
     ensures follows { Follows (collection 2 2 ∷ []) worked.nothing_is_collected }
-    ensures marks { HavePresentMarks (fresh_world 2) worked.nothing_is_collected }
-    ensures lane { IsRun worked.nothing_is_collected }
+    ensures run { IsRun (fresh_world 2) worked.nothing_is_collected }
     ensures text { history_text worked.nothing_is_collected ≡ codes "cut 1\nok\nok\nok\nok\nfreed none\nfreed none\nok\n" }
 {}
 
@@ -106,9 +110,39 @@ pub fn a_sweep_in_doubt_may_be_done()
     ensures text { history_text worked.a_sweep_in_doubt_may_be_done ≡ codes "ok\nnew 1.0.1\nnew 1.1.1\nnew 1.2.1\nok\nok\nok\ncommit 1\nok\nok\ncommit 2\ncut 1\nok\nok\nok\nok\nfreed none\ndisk fault\nbroken 1\nopen 2\nok\nnew 1.0.2\n" }
 {}
 
+/// What is unlinked after its referrer was copied is freed by the next cut.
+pub fn what_is_unlinked_after_its_copy_outlives_the_cut()
+    ensures legal { IsLegal (fresh_world 2) worked.what_is_unlinked_after_its_copy_outlives_the_cut }
+    ensures text { history_text worked.what_is_unlinked_after_its_copy_outlives_the_cut ≡ codes "ok\nnew 1.0.1\nok\ncommit 1\ncut 1\nok\nok\nok\ncommit 2\nok\nok\nok\nfreed none\nfreed none\nok\ncut 2\nok\nok\nok\nok\nfreed none\nfreed 0\nok\n" }
+{}
+
+/// A reopening drops the cut, and cuts are counted on.
+pub fn a_reopening_drops_the_cut()
+    ensures legal { IsLegal (fresh_world 2) worked.a_reopening_drops_the_cut }
+    ensures text { history_text worked.a_reopening_drops_the_cut ≡ codes "cut 1\nopen 0\nno cut\ncut 2\n" }
+{}
+
+/// A second disk fault leaves what the first one put in doubt.
+pub fn a_fault_in_a_reopening_keeps_the_doubt()
+    ensures legal { IsLegal (fresh_world 2) worked.a_fault_in_a_reopening_keeps_the_doubt }
+    ensures text { history_text worked.a_fault_in_a_reopening_keeps_the_doubt ≡ codes "ok\nok\ndisk fault\ndisk fault\nbroken 2\nopen 1\nok\nnum 5\n" }
+{}
+
+/// A name that was never committed is given again.
+pub fn an_aborted_name_is_given_again()
+    ensures legal { IsLegal (fresh_world 2) worked.an_aborted_name_is_given_again }
+    ensures text { history_text worked.an_aborted_name_is_given_again ≡ codes "ok\nnew 1.0.1\nok\nok\nnew 1.0.1\n" }
+{}
+
+/// Copies and marks of another cut are refused, and marks for which there was no memory.
+pub fn another_cut_is_told()
+    ensures legal { IsLegal (fresh_world 2) worked.another_cut_is_told }
+    ensures text { history_text worked.another_cut_is_told ≡ codes "cut 1\nok\ncut 2\nother cut 2\nok\nok\nok\nother cut 2\nmemory\nok\n" }
+{}
+
 /// A busy answer doesn't name another than the holder.
 pub fn busy_names_the_holder()
-    ensures { ¬ IsLegal (worked.roomy_world 2) worked.busy_with_the_wrong_holder }
+    ensures { ¬ IsLegal (fresh_world 2) worked.busy_with_the_wrong_holder }
 {}
 
 /// A sweep doesn't free what was born since the opening.
@@ -129,4 +163,14 @@ pub fn a_commit_is_not_counted_twice()
 /// A refusal doesn't come before an earlier one whose cause is met.
 pub fn refusals_keep_their_order()
     ensures { ¬ IsLegal (fresh_world 2) worked.a_refusal_out_of_order }
+{}
+
+/// A sweep doesn't free what is reached.
+pub fn a_reached_object_is_not_freed()
+    ensures { ¬ IsLegal (fresh_world 2) worked.a_reached_object_is_freed }
+{}
+
+/// A page that another open transaction read isn't written.
+pub fn a_conflict_is_not_overlooked()
+    ensures { ¬ IsLegal (fresh_world 2) worked.a_conflict_is_overlooked }
 {}

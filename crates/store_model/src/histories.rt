@@ -1,12 +1,13 @@
 //! Histories in parts, refused replies, and the marks of a run.
 ghost use Rattle.std.specs.Prelude.{◌≡◌, ◌↔◌, ℕ, List, [], ◌∷◌, ◌++◌};
+ghost use Rattle.object_graph.specs.declared.calls.Call.{Call as AnyCall};
 ghost use Rattle.object_graph.specs.declared.calls.Call.TheVariants.{Mark};
 ghost use Rattle.object_graph.specs.declared.calls.Refusal.TheVariants.{OtherCut};
 ghost use Rattle.object_graph.specs.declared.calls.Reply.TheVariants.{Refused};
 ghost use Rattle.store_model.specs.Worlds.{World, Note, Event};
 ghost use Rattle.store_model.specs.Replies.{Allows, AllowsReply};
 ghost use Rattle.store_model.specs.Steps.{next};
-ghost use Rattle.store_model.specs.Histories.{after, IsLegal, HasPresentMarks, is_refused as tells_refusal};
+ghost use Rattle.store_model.specs.Histories.{after, IsLegal, HasPresentMarks, IsRun, Makes, Starts, is_refused as tells_refusal};
 
 use object_graph::Reply;
 
@@ -29,6 +30,16 @@ pub fn one_more_event()
 pub fn histories_in_two_parts()
     ensures after { (w : World) (events more : List Event) → after w (events ++ more) ≡ after (after w events) more }
     ensures legal { (w : World) (events more : List Event) → IsLegal w (events ++ more) ↔ (IsLegal w events × IsLegal (after w events) more) }
+{}
+
+/// So is a run.
+pub fn a_run_in_two_parts()
+    ensures { (w : World) (events more : List Event) → IsRun w (events ++ more) ↔ (IsRun w events × IsRun (after w events) more) }
+{}
+
+/// Events are the first ones of what a line makes exactly where some further ones make it whole.
+pub fn a_part_starts()
+    ensures { (calls : List AnyCall) (events : List Event) → Starts calls events ↔ ((more : List Event) × Makes calls (events ++ more) []) }
 {}
 
 /// Marks that are none or of the cut that is there are never of another cut.

@@ -9,11 +9,11 @@ returns-clause-legal c = nothing_is_collected_legal
 pub returns-clause-follows : goal.returns-clause-follows
 returns-clause-follows c = nothing_is_collected_follows
 
-pub returns-clause-marks : goal.returns-clause-marks
-returns-clause-marks c = (tt, (tt, (tt, (tt, (refl, (tt, (tt, (tt, tt))))))))
-
-pub returns-clause-lane : goal.returns-clause-lane
-returns-clause-lane c = (refl, (refl, (refl, (refl, (refl, (refl, (refl, (refl, tt))))))))
+pub returns-clause-run : goal.returns-clause-run
+returns-clause-run c = record {
+  lane = (refl, (refl, (refl, (refl, (refl, (refl, (refl, (refl, tt))))))));
+  marks = (tt, (tt, (tt, (tt, (refl, (tt, (tt, (tt, tt))))))));
+}
 
 pub returns-clause-text : goal.returns-clause-text
 unfolding digits

@@ -5,10 +5,10 @@ pub returns-clause-in_use : goal.returns-clause-in_use
 returns-clause-in_use c = opened_unfreed
 
 pub returns-clause-names : goal.returns-clause-names
-returns-clause-names c = λ open_limit commits images name right. opened_names open_limit commits images right name
+returns-clause-names c = λ commits images name right. opened_names commits images right name
 
 pub returns-clause-freed : goal.returns-clause-freed
-returns-clause-freed c = λ open_limit commits images name right. opened_freed open_limit commits images right name
+returns-clause-freed c = λ commits images name right. opened_freed commits images right name
 
 pub returns-clause-blank : goal.returns-clause-blank
-returns-clause-blank c = λ open_limit commits images o right there freed. opened_blank open_limit commits images right o there freed
+returns-clause-blank c = λ commits images o right there freed. opened_blank commits images right o there freed
