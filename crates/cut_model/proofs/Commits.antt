@@ -6,11 +6,11 @@ use Rattle.std.specs.Option.{IfSome}
 use Rattle.std.proofs.lemmas.Bool.{and_parts, and_from, cases_Bool, eqb-true, eq-eqb, not-true}
 use Rattle.object_graph.specs.NameParts.{NameParts}
 use Rattle.object_graph.specs.Slots.{has_slot}
-use Rattle.object_graph.specs.declared.names.Object.{Object}
+use Rattle.object_graph.specs.ObjectParts.{ObjectParts}
 use Rattle.object_graph.specs.Graphs.{has_name, has_object, is_at, objects_at}
 use Rattle.object_graph.specs.Slots.{below}
 use Rattle.store_model.specs.Images.{shown_slot, shown_of, shown_in, shown}
-use Rattle.store_model.specs.Worlds.{World, Transaction, Opening, slots_of, fields_of, starts, view, new_object}
+use Rattle.store_model.specs.Worlds.{World, Transaction, Opening, slots_of, fields_of, view, new_object}
 use Rattle.store_model.specs.Causes.{has_page}
 use Rattle.store_model.specs.Lawful.{IsOwn, IsLawfulTransaction}
 use Rattle.object_graph.proofs.Members.{In, any_in, in_any, in_filter, filter_in, each_in, each_from, or_right}
@@ -20,7 +20,8 @@ use Rattle.store_model.proofs.Reach.{name-with_writes, view_object}
 use Rattle.store_model.proofs.Cuts.{safe_view}
 use Rattle.store_model.specs.Lawful.{IsOrderly}
 use Rattle.store_model.specs.Worlds.{is_unfreed, is_old}
-use Rattle.cut_model.specs.States.{state_of, state_after, KeepsOpening}
+use Rattle.store_model.specs.States.{state_of, state_after}
+use Rattle.cut_model.specs.States.{KeepsOpening}
 use Rattle.cut_model.specs.CutPages.{Copied, Changed, CutPage, bare_page, settled_with, settled_image, images_of_copy, images_of_change, with_commit}
 use Rattle.cut_model.specs.Sound.{IsSafeImage, IsBornRight, IsSoundPage, IsSound, IsFitCopy}
 use Rattle.cut_model.specs.Changes.{IsMade, IsCutAfter}
@@ -33,8 +34,8 @@ pub map_same : {A B : Type 0} (f g : A → B) (xs : List A) → ((x : A) → f x
 map_same f g [] h = refl
 map_same f g (x ∷ xs) h = ap (λ y. y ∷ map f xs) (h x) ∙ ap (λ ys. g x ∷ ys) (map_same f g xs h)
 
-lawful_one : (w : World) (t : Transaction) → IsOrderly w → In t w.transactions → IsLawfulTransaction w.graph w.freed (starts w) t
-lawful_one w t lawful m = each_in (IsLawfulTransaction w.graph w.freed (starts w)) w.transactions t lawful.transactions m
+lawful_one : (w : World) (t : Transaction) → IsOrderly w → In t w.transactions → IsLawfulTransaction w.graph w.freed t
+lawful_one w t lawful m = each_in (IsLawfulTransaction w.graph w.freed) w.transactions t lawful.transactions m
 
 -- the image of such a page stays
 pub shown_stays : (w : World) (t : Transaction) (page : ℕ) → IsOrderly w → In t w.transactions → has_page t.pages_written page ≡ false
@@ -50,7 +51,7 @@ shown_stays w t page lawful m away =
 -- ---- born objects
 
 -- no own object stands where an unfreed one does
-own_elsewhere : (w : World) (t : Transaction) (o : Object) → IsOrderly w → In t w.transactions → In o w.graph → is_unfreed w.freed o ≡ true
+own_elsewhere : (w : World) (t : Transaction) (o : ObjectParts) → IsOrderly w → In t w.transactions → In o w.graph → is_unfreed w.freed o ≡ true
     → list_any (is_at o.name.page o.name.slot) t.own ≡ false
 own_elsewhere w t o lawful m i u = elim (cases_Bool (list_any (is_at o.name.page o.name.slot) t.own)) [
   | inr e ↦ e
@@ -62,8 +63,8 @@ own_elsewhere w t o lawful m i u = elim (cases_Bool (list_any (is_at o.name.page
       let at : is_at n.page n.slot o.name ≡ true =
       and_from (o.name.page == n.page) (o.name.slot == n.slot)
       (eq-eqb o.name.page n.page (sym (eqb-true n.page o.name.page b.0))) (eq-eqb o.name.slot n.slot (sym (eqb-true n.slot o.name.slot b.1))) in
-      let f = each_in (λ (o : Object). IsTrue (has_name w.freed o.name)) (objects_at w.graph n.page n.slot) o own.free
-      (filter_in (λ (p : Object). is_at n.page n.slot p.name) w.graph o i at) in
+      let f = each_in (λ (o : ObjectParts). IsTrue (has_name w.freed o.name)) (objects_at w.graph n.page n.slot) o own.free
+      (filter_in (λ (p : ObjectParts). is_at n.page n.slot p.name) w.graph o i at) in
       let g = not-true (has_name w.freed o.name) u in
       cc
 ]
@@ -80,8 +81,8 @@ born_after w t opening page born after lawful m keeps made h =
     each_from (IsBornRight opening page after) (filter (is_unfreed w.freed) (view w t)) (λ seen i.
     let a = in_filter (is_unfreed w.freed) (view w t) seen i in
     let u = view_object w t seen a.0 in
-    let o : Object = u.0 in
-    let named : seen.name ≡ o.name = ap (λ (x : Object). x.name) u.1.1 ∙ name-with_writes t.writes o in
+    let o : ObjectParts = u.0 in
+    let named : seen.name ≡ o.name = ap (λ (x : ObjectParts). x.name) u.1.1 ∙ name-with_writes t.writes o in
     let right : IsBornRight opening page after o = elim u.1.0 [
       | inl g ↦
           let unf : is_unfreed w.freed o ≡ true = subst (λ n. not (has_name w.freed n) ≡ true) named a.1 in
@@ -90,7 +91,7 @@ born_after w t opening page born after lawful m keeps made h =
     ] in
     subst (λ n. n.page ≡ page → has_slot after n.slot ≡ not (is_old opening n)) (sym named) right)
   where
-    old_one : (o : Object) → In o w.graph → is_unfreed w.freed o ≡ true → IsBornRight opening page born o → IsBornRight opening page after o
+    old_one : (o : ObjectParts) → In o w.graph → is_unfreed w.freed o ≡ true → IsBornRight opening page born o → IsBornRight opening page after o
     old_one o g unf before = λ on.
         let e : list_any (is_at page o.name.slot) t.own ≡ false = subst (λ k. list_any (is_at k o.name.slot) t.own ≡ false) on (own_elsewhere w t o lawful m g unf) in
         made o.name.slot ∙ (or_false (has_slot born o.name.slot) (list_any (is_at page o.name.slot) t.own) e ∙ before on)
@@ -183,12 +184,13 @@ commit_keeps_cut w t opening pages after lawful m keeps is sound = λ page withi
 -- where the page was written, its after-image is later than the copy
 pub fit_stays_written : (w : World) (t : Transaction) (opening : Opening) (page born : ℕ) (p : CutPage) (c : Copied)
     → IsFitCopy (state_of w) opening page p c → IsFitCopy (state_after w t) opening page (with_commit (shown_in w (view w t) page) (w.commits + 1) born p) c
-fit_stays_written w t opening page born p c fit = let h = fit.moment in record { settled = inr (omega arith); images = fit.images; moment = omega arith }
+fit_stays_written w t opening page born p c fit = let h = fit.moment in record { settled = inr (omega arith); images = fit.images; since = fit.since; moment = omega arith }
 
 pub fit_stays_other : (w : World) (t : Transaction) (opening : Opening) (page : ℕ) (p : CutPage) (c : Copied) → IsOrderly w → In t w.transactions
     → has_page t.pages_written page ≡ false → IsFitCopy (state_of w) opening page p c → IsFitCopy (state_after w t) opening page p c
 fit_stays_other w t opening page p c lawful m away fit = let h = fit.moment in record {
   settled = elim fit.settled [ inl e ↦ inl (e ∙ sym (shown_stays w t page lawful m away)) | inr z ↦ inr z ];
   images = fit.images;
+  since = fit.since;
   moment = omega arith;
 }

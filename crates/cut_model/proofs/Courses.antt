@@ -112,41 +112,41 @@ copied_later cut page = record { number = refl; further = omega arith; copied = 
 swept_later : (cut : OpenedCut) (page : ℕ) → IsLater cut (record cut { swept = with_page page cut.swept })
 swept_later cut page = record { number = refl; further = omega arith; copied = λ p h. h; swept = λ p h. with_page_keeps page p cut.swept h }
 
-answer_goes_on : (w : World) (call : Call) (note : Note) (reply : Reply) (cut : OpenedCut) → HasCut w cut → call ≢ EndCut → call ≢ DropCut → call ≢ Reopen
-    → first_refusal w call note ≡ None → GoesOn w cut (after_answer w call note reply)
-answer_goes_on w (New t page) note reply cut has e d r may = new_goes_on w t (new_name w t page) cut has
-answer_goes_on w OpenCut note reply cut has e d r may =
+answer_goes_on : (w : World) (call : Call) (note : Note) (reply : Reply) (cut : OpenedCut) → HasCut w cut → (call ≡ EndCut → reply ≢ Done) → call ≢ DropCut → call ≢ Reopen
+    → first_refusal w call note ≡ None → Answers w call note reply → GoesOn w cut (after_answer w call note reply)
+answer_goes_on w (New t page) note reply cut has e d r may is = new_goes_on w t (new_name w t page) cut has
+answer_goes_on w OpenCut note reply cut has e d r may is =
     let a = first_met_none (broken w) (cut_there w ∷ spent w.last_cut ∷ []) may in
     let b = (first_met_none (cut_there w) (spent w.last_cut ∷ []) a.1).0 in
     let c : cut_there w ≡ Some (CutThere cut.number) = ap (option_map (λ (c : OpenedCut). CutThere c.number)) has.there in
     cc
-answer_goes_on w (Copy page) note reply cut has e d r may = changed w _ cut (λ cut. record cut { copied = with_page page cut.copied }) has refl refl refl (copied_later cut page)
-answer_goes_on w (HandIn page number seen) note reply cut has e d r may = changed w _ cut (λ cut. record cut { copied = with_page page cut.copied }) has refl refl refl (copied_later cut page)
-answer_goes_on w Close note reply cut has e d r may =
+answer_goes_on w (Copy page) note reply cut has e d r may is = changed w _ cut (λ cut. record cut { copied = with_page page cut.copied }) has refl refl refl (copied_later cut page)
+answer_goes_on w (HandIn page number seen) note reply cut has e d r may is = changed w _ cut (λ cut. record cut { copied = with_page page cut.copied }) has refl refl refl (copied_later cut page)
+answer_goes_on w Close note reply cut has e d r may is =
     let h : first_met (wrong_phase cut Copying ∷ uncopied w cut ∷ []) ≡ None = sym (causes_on w cut (λ cut. wrong_phase cut Copying ∷ uncopied w cut ∷ []) has) ∙ may in
     let k = rank_of cut.phase Copying (phase_asked cut Copying (uncopied w cut ∷ []) h) in
     changed w _ cut (λ cut. record cut { phase = Closed }) has refl refl refl (record { number = refl; further = omega arith; copied = λ p h. h; swept = λ p h. h })
-answer_goes_on w (Mark workers) note reply cut has e d r may =
+answer_goes_on w (Mark workers) note reply cut has e d r may is =
     changed w _ cut (λ cut. record cut { phase = Sweeping }) has refl refl refl (record { number = refl; further = at_most cut.phase; copied = λ p h. h; swept = λ p h. h })
   where
     at_most : (phase : Phase) → rank phase ≤ 2
     at_most Copying = omega arith
     at_most Closed = omega arith
     at_most Sweeping = omega arith
-answer_goes_on w (Sweep page) note reply cut has e d r may = changed w _ cut (has_swept page) has refl refl refl (swept_later cut page)
-answer_goes_on w EndCut note reply cut has e d r may = absurd (e refl)
-answer_goes_on w DropCut note reply cut has e d r may = absurd (d refl)
-answer_goes_on w Reopen note reply cut has e d r may = absurd (r refl)
-answer_goes_on w _ note reply cut has e d r may = stays w _ cut has refl refl refl
+answer_goes_on w (Sweep page) note reply cut has e d r may is = changed w _ cut (has_swept page) has refl refl refl (swept_later cut page)
+answer_goes_on w EndCut note reply cut has e d r may is = absurd (e refl is)
+answer_goes_on w DropCut note reply cut has e d r may is = absurd (d refl)
+answer_goes_on w Reopen note reply cut has e d r may is = absurd (r refl)
+answer_goes_on w _ note reply cut has e d r may is = stays w _ cut has refl refl refl
 
 refusal_goes_on : (w : World) (call : Call) (note : Note) (why : Refusal) (cut : OpenedCut) → HasCut w cut → why ≢ DiskFault → GoesOn w cut (after_refusal w call note why)
 refusal_goes_on w call note DiskFault cut has h = absurd (h refl)
 refusal_goes_on w call note _ cut has h = stays w w cut has refl refl refl
 
-reply_goes_on : (w : World) (call : Call) (note : Note) (reply : Reply) (cut : OpenedCut) → HasCut w cut → reply ≢ Refused DiskFault → call ≢ EndCut → call ≢ DropCut → call ≢ Reopen
+reply_goes_on : (w : World) (call : Call) (note : Note) (reply : Reply) (cut : OpenedCut) → HasCut w cut → reply ≢ Refused DiskFault → (call ≡ EndCut → reply ≢ Done) → call ≢ DropCut → call ≢ Reopen
     → AllowsReply w call note reply → GoesOn w cut (after_reply w call note reply)
 reply_goes_on w call note (Refused why) cut has f e d r may = refusal_goes_on w call note why cut has (λ q. f (ap (λ (r : Refusal). Refused r) q))
-reply_goes_on w call note reply cut has f e d r may = answer_goes_on w call note reply cut has e d r may.0
+reply_goes_on w call note reply cut has f e d r may = answer_goes_on w call note reply cut has e d r may.0 may.1
 
 pub event_goes_on : (w : World) (e : Event) (cut : OpenedCut) → HasCut w cut → IsUndisturbing e → AllowsReply w e.entry.call e.note e.entry.reply → GoesOn w cut (next w e)
 event_goes_on w e cut has u may = reply_goes_on w e.entry.call e.note e.entry.reply cut has u.no_fault u.no_end u.no_drop u.no_reopening may

@@ -2,12 +2,12 @@
 use Rattle.std.proofs.Common.{◌≡◌, ℕ, ◌<◌, true, List, ◌++◌, length, get_or, Option, Some, None, refl, sym, subst, ap, ◌∙◌, inl, inr}
 use Rattle.std.specs.Option.{is_some, IfSome, unwrap_or}
 use Rattle.object_graph.specs.SlotParts.{SlotParts}
-use Rattle.object_graph.specs.declared.names.Object.{Object}
+use Rattle.object_graph.specs.ObjectParts.{ObjectParts}
 use Rattle.object_graph.specs.Slots.{below}
 use Rattle.store_model.specs.Worlds.{Opening}
 use Rattle.object_graph.proofs.Members.{In, each_in}
 use Rattle.store_model.proofs.Cuts.{below_bound}
-use Rattle.cut_model.specs.States.{State, shown_by}
+use Rattle.store_model.specs.States.{State, shown_by}
 use Rattle.store_model.specs.Images.{objects_of}
 use Rattle.cut_model.specs.CutPages.{Copied, Changed, CutPage, bare_page, committed_image, settled_with, settled_image, images_of_before, images_of_copy, images_of_change, images_of, objects_on, cut_graph}
 use Rattle.cut_model.specs.Sound.{IsSafeObject, IsSafeImage, IsSoundPage, IsSound}
@@ -46,14 +46,14 @@ settled_shown s opening page p sound h =
     t.1 ∙ ap (λ (i : List SlotParts). Some i) k
 
 -- an object in an image of a page is in the graph of the cut
-pub in_cut_graph : (pages : List CutPage) (page : ℕ) (image : List SlotParts) (o : Object) → page < length pages
+pub in_cut_graph : (pages : List CutPage) (page : ℕ) (image : List SlotParts) (o : ObjectParts) → page < length pages
     → In image (images_of (get_or pages page bare_page)) → In o (objects_of page image) → In o (cut_graph pages)
 in_cut_graph pages page image o h i m =
     flat_in (λ (page : ℕ). objects_on page (get_or pages page bare_page)) (below (length pages)) page o (in_below (length pages) page h)
     (flat_in (objects_of page) (images_of (get_or pages page bare_page)) image o i m)
 
 -- an object of the graph of a sound cut is safe
-pub cut_graph_safe : (s : State) (opening : Opening) (pages : List CutPage) (o : Object) → IsSound s opening pages → In o (cut_graph pages) → IsSafeObject opening o
+pub cut_graph_safe : (s : State) (opening : Opening) (pages : List CutPage) (o : ObjectParts) → IsSound s opening pages → In o (cut_graph pages) → IsSafeObject opening o
 cut_graph_safe s opening pages o sound m =
     let a = in_flat (λ (page : ℕ). objects_on page (get_or pages page bare_page)) (below (length pages)) o m in
     let page : ℕ = a.0 in

@@ -17,11 +17,12 @@ use Rattle.store_model.specs.Steps.{after_refusal, after_answer, after_reply, wi
 use Rattle.object_graph.proofs.Members.{In}
 use Rattle.store_model.proofs.Opened.{commit_is_open}
 use Rattle.store_model.specs.Lawful.{IsOrderly}
-use Rattle.cut_model.specs.States.{State, state_of, state_after, KeepsOpening}
+use Rattle.store_model.specs.States.{State, state_of, state_after}
+use Rattle.cut_model.specs.States.{KeepsOpening}
 use Rattle.cut_model.specs.CutPages.{Copied, Changed, CutPage, bare_page, with_copy}
 use Rattle.cut_model.specs.Sound.{IsSound, IsFit}
 use Rattle.cut_model.specs.Frames.{copy_now}
-use Rattle.cut_model.specs.Changes.{IsCutAfter, Adds, ChangesBy, Changes, GivesImages, ends_copying}
+use Rattle.cut_model.specs.Changes.{IsCutAfter, Adds, ChangesBy, Changes, GivesImages, GivesImagesBy, ends_copying}
 use Rattle.cut_model.proofs.Fits.{fit_copy_keeps_cut, frame_keeps_cut}
 use Rattle.cut_model.proofs.Commits.{commit_keeps_cut, fit_stays_written, fit_stays_other}
 
@@ -97,7 +98,7 @@ fit_beside s opening pages after page other c d adds fit = elim (cases_eq page o
 ]
 
 answer_keeps_fit : (w : World) (opening : Opening) (call : Call) (note : Note) (reply : Reply) (pages after : List CutPage) (page : ℕ) (c : Copied) → IsOrderly w
-    → page < length pages → first_refusal w call note ≡ None → ends_copying call ≡ false → ChangesBy w opening call pages after → GivesImages w call after
+    → page < length pages → first_refusal w call note ≡ None → ends_copying call ≡ false → ChangesBy w opening call pages after → GivesImagesBy w call after
     → IsFit (state_of w) opening page (get_or pages page bare_page) c → IsFit (state_of (after_answer w call note reply)) opening page (get_or after page bare_page) c
 answer_keeps_fit w opening (New t p) note reply pages after page c lawful within may stays changes given fit =
     subst (λ s. IsFit s opening page (get_or after page bare_page) c) (sym (state-with_new w t (new_name w t p)))
@@ -112,7 +113,7 @@ answer_keeps_fit w opening _ note reply pages after page c lawful within may sta
     subst (λ ps. IsFit (state_of w) opening page (get_or ps page bare_page) c) (sym changes) fit
 
 pub event_keeps_fit : (w : World) (opening : Opening) (call : Call) (note : Note) (reply : Reply) (pages after : List CutPage) (page : ℕ) (c : Copied) → IsOrderly w
-    → page < length pages → AllowsReply w call note reply → ends_copying call ≡ false → Changes w opening call reply pages after → GivesImages w call after
+    → page < length pages → AllowsReply w call note reply → ends_copying call ≡ false → Changes w opening call reply pages after → GivesImages w call reply after
     → IsFit (state_of w) opening page (get_or pages page bare_page) c → IsFit (state_of (after_reply w call note reply)) opening page (get_or after page bare_page) c
 event_keeps_fit w opening call note (Refused why) pages after page c lawful within may stays changes given fit =
     subst (λ s. IsFit s opening page (get_or after page bare_page) c) (sym (state-after_refusal w call note why))

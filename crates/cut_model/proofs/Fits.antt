@@ -10,7 +10,8 @@ use Rattle.store_model.specs.Worlds.{World, Transaction, Opening}
 use Rattle.store_model.specs.Causes.{has_page}
 use Rattle.store_model.proofs.Lists.{find_in}
 use Rattle.store_model.specs.Lawful.{IsOrderly}
-use Rattle.cut_model.specs.States.{State, state_of, KeepsOpening, shown_by}
+use Rattle.store_model.specs.States.{State, state_of, shown_by}
+use Rattle.cut_model.specs.States.{KeepsOpening}
 use Rattle.cut_model.specs.CutPages.{Copied, Changed, CutPage, bare_page, committed_image, settled_with, images_of_copy, images_of_change, kept_beside, with_copy}
 use Rattle.cut_model.specs.Sound.{IsSafeImage, IsSoundPage, IsSound, IsFitCopy}
 use Rattle.cut_model.specs.Frames.{writer_of, copy_with, copy_now}
@@ -22,10 +23,11 @@ pub frame_is_fit : (w : World) (opening : Opening) (page : ℕ) (p : CutPage) �
 frame_is_fit w opening page p lawful keeps = by_writer (writer_of w.transactions page) refl
   where
     by_writer : (writer : Option Transaction) → writer_of w.transactions page ≡ writer → IsFitCopy (state_of w) opening page p (copy_with w page writer)
-    by_writer None e = record { settled = inl refl; images = (committed_safe w opening page keeps, tt); moment = omega arith }
+    by_writer None e = record { settled = inl refl; images = (committed_safe w opening page keeps, tt); since = keeps.commits; moment = omega arith }
     by_writer (Some t) e = record {
       settled = inl refl;
       images = (view_safe w t opening page lawful (find_in (λ (t : Transaction). has_page t.pages_written page) w.transactions t e) keeps, (committed_safe w opening page keeps, tt));
+      since = keeps.commits;
       moment = omega arith;
     }
 

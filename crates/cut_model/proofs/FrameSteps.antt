@@ -12,11 +12,11 @@ use Rattle.store_model.proofs.Committed.{place_away}
 use Rattle.object_graph.specs.NameParts.{NameParts}
 use Rattle.object_graph.specs.Names.{name_eq}
 use Rattle.object_graph.specs.SlotParts.{SlotParts}
-use Rattle.object_graph.specs.declared.names.Object.{Object}
+use Rattle.object_graph.specs.ObjectParts.{ObjectParts}
 use Rattle.object_graph.specs.Graphs.{has_name, is_at, objects_at}
 use Rattle.object_graph.specs.Slots.{below}
 use Rattle.store_model.specs.Images.{slot_with, shown_slot, shown_of, shown_in, unfreed_at, no_slot}
-use Rattle.store_model.specs.Worlds.{World, Transaction, slots_of, fields_of, Write, link, assign, starts, view, with_writes, written_by, new_object}
+use Rattle.store_model.specs.Worlds.{World, Transaction, slots_of, fields_of, Write, link, assign, view, with_writes, written_by, new_object}
 use Rattle.store_model.specs.Steps.{writes, makes}
 use Rattle.object_graph.proofs.Members.{In, in_filter, filter_in, in_map, each_in, or_left, or_right}
 use Rattle.object_graph.proofs.Paths.{name_eq_same, name_eq_refl}
@@ -67,43 +67,43 @@ view_written : (w : World) (t : Transaction) (write : Write) (page : ℕ) → vi
 view_written w t write page = sym (map_of_map (with_writes t.writes) (written_by write) (w.graph ++ map (new_object w) t.own))
 
 -- a write leaves objects of other names, and changes the one of its name
-written_other : (write : Write) (o : Object) → name_eq o.name (written_name write) ≡ false → written_by write o ≡ o
+written_other : (write : Write) (o : ObjectParts) → name_eq o.name (written_name write) ≡ false → written_by write o ≡ o
 written_other (link name field target) o e = ap (λ b. cond b (record o { refs = slice_set o.refs field target }) o) e
 written_other (assign name value) o e = ap (λ b. cond b (record o { number = value }) o) e
 
-written_same : (fields : ℕ) (write : Write) (o : Object) (os : List Object) (names : ℕ) → name_eq o.name (written_name write) ≡ true
+written_same : (fields : ℕ) (write : Write) (o : ObjectParts) (os : List ObjectParts) (names : ℕ) → name_eq o.name (written_name write) ≡ true
     → slot_with fields (written_by write o ∷ os) names ≡ written_slot write (slot_with fields (o ∷ os) names)
 written_same fields (link name field target) o os names e = ap (λ b. slot_with fields (cond b (record o { refs = slice_set o.refs field target }) o ∷ os) names) e
 written_same fields (assign name value) o os names e = ap (λ b. slot_with fields (cond b (record o { number = value }) o ∷ os) names) e
 
 -- the slot of another place
-other_slot : (fields : ℕ) (write : Write) (os : List Object) (names : ℕ) → ((o : Object) → In o os → name_eq o.name (written_name write) ≡ false)
+other_slot : (fields : ℕ) (write : Write) (os : List ObjectParts) (names : ℕ) → ((o : ObjectParts) → In o os → name_eq o.name (written_name write) ≡ false)
     → slot_with fields (map (written_by write) os) names ≡ slot_with fields os names
 other_slot fields write [] names h = refl
-other_slot fields write (o ∷ os) names h = ap (λ (x : Object). slot_with fields (x ∷ []) names) (written_other write o (h o (inl refl)))
+other_slot fields write (o ∷ os) names h = ap (λ (x : ObjectParts). slot_with fields (x ∷ []) names) (written_other write o (h o (inl refl)))
 
-this_slot : (fields : ℕ) (write : Write) (os : List Object) (o : Object) (names : ℕ) → In o os → ((a b : Object) → In a os → In b os → a ≡ b) → o.name ≡ written_name write
+this_slot : (fields : ℕ) (write : Write) (os : List ObjectParts) (o : ObjectParts) (names : ℕ) → In o os → ((a b : ObjectParts) → In a os → In b os → a ≡ b) → o.name ≡ written_name write
     → slot_with fields (map (written_by write) os) names ≡ written_slot write (slot_with fields os names)
 this_slot fields write [] o names m one e = absurd m
 this_slot fields write (h ∷ hs) o names m one e =
-    let q : h.name ≡ written_name write = ap (λ (x : Object). x.name) (one h o (inl refl) m) ∙ e in
+    let q : h.name ≡ written_name write = ap (λ (x : ObjectParts). x.name) (one h o (inl refl) m) ∙ e in
     written_same fields write h (map (written_by write) hs) names (subst (λ n. name_eq h.name n ≡ true) q (name_eq_refl h.name))
 
-shown_slot-map : (fields : ℕ) (write : Write) (graph : List Object) (freed : List NameParts) (page slot : ℕ)
+shown_slot-map : (fields : ℕ) (write : Write) (graph : List ObjectParts) (freed : List NameParts) (page slot : ℕ)
     → shown_slot fields (map (written_by write) graph) freed page slot ≡ slot_with fields (map (written_by write) (unfreed_at graph freed page slot)) (length (objects_at graph page slot))
 shown_slot-map fields write graph freed page slot =
     ap (λ us. slot_with fields us (length (objects_at (map (written_by write) graph) page slot))) (unfreed_at-map (written_by write) graph freed page slot (name-written_by write))
     ∙ ap (slot_with fields (map (written_by write) (unfreed_at graph freed page slot)))
     (ap length (objects_at-map (written_by write) graph page slot (name-written_by write)) ∙ length-map (objects_at graph page slot) (written_by write))
 
-at_place : (graph : List Object) (freed : List NameParts) (page slot : ℕ) (o : Object) → In o (unfreed_at graph freed page slot) → (o.name.page ≡ page) × (o.name.slot ≡ slot)
+at_place : (graph : List ObjectParts) (freed : List NameParts) (page slot : ℕ) (o : ObjectParts) → In o (unfreed_at graph freed page slot) → (o.name.page ≡ page) × (o.name.slot ≡ slot)
 at_place graph freed page slot o m =
     let a = in_filter (is_unfreed freed) (objects_at graph page slot) o m in
-    let b = in_filter (λ (o : Object). is_at page slot o.name) graph o a.0 in
+    let b = in_filter (λ (o : ObjectParts). is_at page slot o.name) graph o a.0 in
     let c = and_parts (o.name.page == page) (o.name.slot == slot) b.1 in
     (eqb-true o.name.page page c.0, eqb-true o.name.slot slot c.1)
 
-shown_slot_elsewhere : (fields : ℕ) (write : Write) (graph : List Object) (freed : List NameParts) (page slot : ℕ) → ¬ (((written_name write).page ≡ page) × ((written_name write).slot ≡ slot))
+shown_slot_elsewhere : (fields : ℕ) (write : Write) (graph : List ObjectParts) (freed : List NameParts) (page slot : ℕ) → ¬ (((written_name write).page ≡ page) × ((written_name write).slot ≡ slot))
     → shown_slot fields (map (written_by write) graph) freed page slot ≡ shown_slot fields graph freed page slot
 shown_slot_elsewhere fields write graph freed page slot away =
     shown_slot-map fields write graph freed page slot
@@ -116,8 +116,8 @@ shown_slot_elsewhere fields write graph freed page slot away =
     ])
 
 -- the image of the written page has one slot changed
-pub write_changes_slot : (w : World) (t : Transaction) (write : Write) (page : ℕ) (o : Object) → In o (unfreed_at (view w t) w.freed (written_name write).page (written_name write).slot)
-    → ((a b : Object) → In a (unfreed_at (view w t) w.freed (written_name write).page (written_name write).slot) → In b (unfreed_at (view w t) w.freed (written_name write).page (written_name write).slot) → a ≡ b)
+pub write_changes_slot : (w : World) (t : Transaction) (write : Write) (page : ℕ) (o : ObjectParts) → In o (unfreed_at (view w t) w.freed (written_name write).page (written_name write).slot)
+    → ((a b : ObjectParts) → In a (unfreed_at (view w t) w.freed (written_name write).page (written_name write).slot) → In b (unfreed_at (view w t) w.freed (written_name write).page (written_name write).slot) → a ≡ b)
     → o.name ≡ written_name write → (written_name write).slot < slots_of w (written_name write).page
     → shown_in w (view w (writes write page t)) (written_name write).page
     ≡ set (shown_in w (view w t) (written_name write).page) (written_name write).slot
@@ -171,14 +171,14 @@ filter_none_in : {A : Type 0} (p : A → Bool) (xs : List A) → ((x : A) → In
 filter_none_in p [] h = refl
 filter_none_in p (x ∷ xs) h = ap (λ b. cond b (x ∷ filter p xs) (filter p xs)) (h x (inl refl)) ∙ filter_none_in p xs (λ y m. h y (inr m))
 
-freed_with : (fields : ℕ) (os : List Object) (o : Object) (names : ℕ) → In o os → ((a b : Object) → In a os → In b os → a ≡ b) → o.name.generation ≡ names → slot_with fields [] names ≡ freed_slot fields (slot_with fields os names)
+freed_with : (fields : ℕ) (os : List ObjectParts) (o : ObjectParts) (names : ℕ) → In o os → ((a b : ObjectParts) → In a os → In b os → a ≡ b) → o.name.generation ≡ names → slot_with fields [] names ≡ freed_slot fields (slot_with fields os names)
 freed_with fields [] o names m one e = absurd m
 freed_with fields (h ∷ hs) o names m one e =
     ap (λ k. slot_with fields [] k) (sym e)
-    ∙ ap (λ (x : Object). let s : SlotParts = record { in_use = false; generation = x.name.generation; number = 0; refs = replicate fields None } in s) (one o h m (inl refl))
+    ∙ ap (λ (x : ObjectParts). let s : SlotParts = record { in_use = false; generation = x.name.generation; number = 0; refs = replicate fields None } in s) (one o h m (inl refl))
 
-pub sweep_frees_slot : (fields : ℕ) (graph : List Object) (freed names : List NameParts) (page slot : ℕ) (o : Object) → In o (unfreed_at graph freed page slot)
-    → ((a b : Object) → In a (unfreed_at graph freed page slot) → In b (unfreed_at graph freed page slot) → a ≡ b)
+pub sweep_frees_slot : (fields : ℕ) (graph : List ObjectParts) (freed names : List NameParts) (page slot : ℕ) (o : ObjectParts) → In o (unfreed_at graph freed page slot)
+    → ((a b : ObjectParts) → In a (unfreed_at graph freed page slot) → In b (unfreed_at graph freed page slot) → a ≡ b)
     → o.name.generation ≡ length (objects_at graph page slot) → has_name names o.name ≡ true
     → shown_slot fields graph (names ++ freed) page slot ≡ freed_slot fields (shown_slot fields graph freed page slot)
 sweep_frees_slot fields graph freed names page slot o m one last gone =
@@ -187,12 +187,12 @@ sweep_frees_slot fields graph freed names page slot o m one last gone =
       | inl e ↦ or_right (has_name names x.name) (has_name freed x.name) e
       | inr e ↦
           let here : In x (unfreed_at graph freed page slot) = filter_in (is_unfreed freed) (objects_at graph page slot) x i (ap not e) in
-          or_left (has_name names x.name) (has_name freed x.name) (subst (λ (y : Object). has_name names y.name ≡ true) (one o x m here) gone)
+          or_left (has_name names x.name) (has_name freed x.name) (subst (λ (y : ObjectParts). has_name names y.name ≡ true) (one o x m here) gone)
     ]))))
     ∙ freed_with fields (unfreed_at graph freed page slot) o (length (objects_at graph page slot)) m one last
 
-pub sweep_leaves_slot : (fields : ℕ) (graph : List Object) (freed names : List NameParts) (page slot : ℕ)
-    → ((o : Object) → In o (unfreed_at graph freed page slot) → has_name names o.name ≡ false)
+pub sweep_leaves_slot : (fields : ℕ) (graph : List ObjectParts) (freed names : List NameParts) (page slot : ℕ)
+    → ((o : ObjectParts) → In o (unfreed_at graph freed page slot) → has_name names o.name ≡ false)
     → shown_slot fields graph (names ++ freed) page slot ≡ shown_slot fields graph freed page slot
 sweep_leaves_slot fields graph freed names page slot away =
     ap (λ us. slot_with fields us (length (objects_at graph page slot))) (filter_same_in (is_unfreed (names ++ freed)) (is_unfreed freed) (objects_at graph page slot) (λ x i.
@@ -203,7 +203,7 @@ sweep_leaves_slot fields graph freed names page slot away =
 
 -- ---- the same, in a graph that counts up
 
-pub write_changes_one_slot : (w : World) (t : Transaction) (write : Write) (page : ℕ) (o : Object) → CountsUp (view w t) → OnlyLastUnfreed (view w t) w.freed → In o (view w t)
+pub write_changes_one_slot : (w : World) (t : Transaction) (write : Write) (page : ℕ) (o : ObjectParts) → CountsUp (view w t) → OnlyLastUnfreed (view w t) w.freed → In o (view w t)
     → is_unfreed w.freed o ≡ true → o.name ≡ written_name write → (written_name write).slot < slots_of w (written_name write).page
     → shown_in w (view w (writes write page t)) (written_name write).page
     ≡ set (shown_in w (view w t) (written_name write).page) (written_name write).slot
@@ -212,7 +212,7 @@ write_changes_one_slot w t write page o counts last m u named low =
     write_changes_slot w t write page o (subst (λ (n : NameParts). In o (unfreed_at (view w t) w.freed n.page n.slot)) named (in_unfreed_at (view w t) w.freed o m u))
     (one_each (view w t) w.freed counts last (written_name write).page (written_name write).slot) named low
 
-pub sweep_frees_its_slot : (fields : ℕ) (graph : List Object) (freed names : List NameParts) (o : Object) → CountsUp graph → OnlyLastUnfreed graph freed → In o graph → is_unfreed freed o ≡ true
+pub sweep_frees_its_slot : (fields : ℕ) (graph : List ObjectParts) (freed names : List NameParts) (o : ObjectParts) → CountsUp graph → OnlyLastUnfreed graph freed → In o graph → is_unfreed freed o ≡ true
     → has_name names o.name ≡ true
     → shown_slot fields graph (names ++ freed) o.name.page o.name.slot ≡ freed_slot fields (shown_slot fields graph freed o.name.page o.name.slot)
 sweep_frees_its_slot fields graph freed names o counts last m u gone =
@@ -225,7 +225,7 @@ view_in_order w t orderly m = let v = view_is_orderly w t w.commits orderly (law
 -- ---- a new object
 
 -- writes on other names leave an object
-writes_elsewhere : (ws : List Write) (o : Object) → AllByRecursion (λ write. name_eq o.name (written_name write) ≡ false) ws → with_writes ws o ≡ o
+writes_elsewhere : (ws : List Write) (o : ObjectParts) → AllByRecursion (λ write. name_eq o.name (written_name write) ≡ false) ws → with_writes ws o ≡ o
 writes_elsewhere [] o h = refl
 writes_elsewhere (write ∷ ws) o h = ap (written_by write) (writes_elsewhere ws o h.1) ∙ written_other write o h.0
 
@@ -233,8 +233,8 @@ one_more_place : (w : World) (t : Transaction) (name : NameParts) (page slot : �
     → objects_at (view w (makes name t)) page slot
     ≡ map (with_writes t.writes) (objects_at w.graph page slot ++ (objects_at (map (new_object w) t.own) page slot ++ objects_at (new_object w name ∷ []) page slot))
 one_more_place w t name page slot =
-    let news : List Object = map (new_object w) t.own in
-    let at : Object → Bool = λ (o : Object). is_at page slot o.name in
+    let news : List ObjectParts = map (new_object w) t.own in
+    let at : ObjectParts → Bool = λ (o : ObjectParts). is_at page slot o.name in
     ap (λ os. objects_at (map (with_writes t.writes) (w.graph ++ os)) page slot) (map-append (new_object w) t.own (name ∷ []))
     ∙ (objects_at-map (with_writes t.writes) (w.graph ++ (news ++ new_object w name ∷ [])) page slot (name-with_writes t.writes)
     ∙ ap (map (with_writes t.writes)) (filter-append at w.graph (news ++ new_object w name ∷ [])
@@ -244,13 +244,13 @@ plain_place : (w : World) (t : Transaction) (page slot : ℕ)
     → objects_at (view w t) page slot ≡ map (with_writes t.writes) (objects_at w.graph page slot ++ objects_at (map (new_object w) t.own) page slot)
 plain_place w t page slot =
     objects_at-map (with_writes t.writes) (w.graph ++ map (new_object w) t.own) page slot (name-with_writes t.writes)
-    ∙ ap (map (with_writes t.writes)) (filter-append (λ (o : Object). is_at page slot o.name) w.graph (map (new_object w) t.own))
+    ∙ ap (map (with_writes t.writes)) (filter-append (λ (o : ObjectParts). is_at page slot o.name) w.graph (map (new_object w) t.own))
 
 -- the slot of another place stays
 pub new_leaves_slot : (fields : ℕ) (w : World) (t : Transaction) (name : NameParts) (page slot : ℕ) → is_at page slot name ≡ false
     → shown_slot fields (view w (makes name t)) w.freed page slot ≡ shown_slot fields (view w t) w.freed page slot
 new_leaves_slot fields w t name page slot away =
-    let news : List Object = objects_at (map (new_object w) t.own) page slot in
+    let news : List ObjectParts = objects_at (map (new_object w) t.own) page slot in
     ap (λ os. slot_with fields (filter (is_unfreed w.freed) os) (length os))
     (one_more_place w t name page slot
     ∙ (ap (λ b. map (with_writes t.writes) (objects_at w.graph page slot ++ (news ++ cond b (new_object w name ∷ []) []))) away
@@ -266,23 +266,23 @@ pub new_takes_slot : (w : World) (t : Transaction) (name : NameParts) → AllByR
 new_takes_slot w t name free none unfreed other =
     let page : ℕ = name.page in
     let slot : ℕ = name.slot in
-    let news : List Object = map (new_object w) t.own in
+    let news : List ObjectParts = map (new_object w) t.own in
     let at : is_at page slot name ≡ true = and_from (page == page) (slot == slot) (eq-eqb page page refl) (eq-eqb slot slot refl) in
     let empty : objects_at news page slot ≡ [] =
-    filter_of_map (new_object w) (λ (o : Object). is_at page slot o.name) t.own ∙ ap (map (new_object w)) (any_false_filter (is_at page slot) t.own none) in
+    filter_of_map (new_object w) (λ (o : ObjectParts). is_at page slot o.name) t.own ∙ ap (map (new_object w)) (any_false_filter (is_at page slot) t.own none) in
     let still : with_writes t.writes (new_object w name) ≡ new_object w name = writes_elsewhere t.writes (new_object w name) other in
     let a : objects_at (view w (makes name t)) page slot ≡ map (with_writes t.writes) (objects_at w.graph page slot) ++ new_object w name ∷ [] =
     one_more_place w t name page slot
     ∙ (ap (λ b. map (with_writes t.writes) (objects_at w.graph page slot ++ (objects_at news page slot ++ cond b (new_object w name ∷ []) []))) at
     ∙ (ap (λ os. map (with_writes t.writes) (objects_at w.graph page slot ++ (os ++ new_object w name ∷ []))) empty
     ∙ (map-append (with_writes t.writes) (objects_at w.graph page slot) (new_object w name ∷ [])
-    ∙ ap (λ (x : Object). map (with_writes t.writes) (objects_at w.graph page slot) ++ x ∷ []) still))) in
+    ∙ ap (λ (x : ObjectParts). map (with_writes t.writes) (objects_at w.graph page slot) ++ x ∷ []) still))) in
     let b : filter (is_unfreed w.freed) (map (with_writes t.writes) (objects_at w.graph page slot) ++ new_object w name ∷ []) ≡ new_object w name ∷ [] =
     filter-append (is_unfreed w.freed) (map (with_writes t.writes) (objects_at w.graph page slot)) (new_object w name ∷ [])
     ∙ (ap (λ os. os ++ filter (is_unfreed w.freed) (new_object w name ∷ [])) (filter_none_in (is_unfreed w.freed) (map (with_writes t.writes) (objects_at w.graph page slot)) (λ x i.
     let c = in_map (with_writes t.writes) (objects_at w.graph page slot) x i in
-    let f = each_in (λ (o : Object). IsTrue (has_name w.freed o.name)) (objects_at w.graph page slot) c.0 free c.1 in
-    ap not (subst (λ n. has_name w.freed n ≡ true) (sym (ap (λ (x : Object). x.name) c.2 ∙ name-with_writes t.writes c.0)) f)))
+    let f = each_in (λ (o : ObjectParts). IsTrue (has_name w.freed o.name)) (objects_at w.graph page slot) c.0 free c.1 in
+    ap not (subst (λ n. has_name w.freed n ≡ true) (sym (ap (λ (x : ObjectParts). x.name) c.2 ∙ name-with_writes t.writes c.0)) f)))
     ∙ ap (λ e. cond (not e) (new_object w name ∷ []) []) unfreed) in
     let len : ℕ = length (objects_at (view w (makes name t)) page slot) in
     ap (λ os. slot_with (fields_of w page) (filter (is_unfreed w.freed) os) len) a ∙ ap (λ us. slot_with (fields_of w page) us len) b
@@ -290,7 +290,7 @@ new_takes_slot w t name free none unfreed other =
 -- ---- a commit of another transaction
 
 -- a commit leaves the image of each page that another open transaction wrote, as that one sees it
-pub other_view_stays : (w : World) (t u : Transaction) (page : ℕ) → IsLawfulTransaction w.graph w.freed (starts w) t → IsApart t u → has_page u.pages_written page ≡ true
+pub other_view_stays : (w : World) (t u : Transaction) (page : ℕ) → IsLawfulTransaction w.graph w.freed t → IsApart t u → has_page u.pages_written page ≡ true
     → shown_in w (view (record w { graph = view w t }) u) page ≡ shown_in w (view w u) page
 unfolding shown_of
 other_view_stays w t u page lt apart wrote =

@@ -1,5 +1,5 @@
 -- What each event keeps of a cut's opening.
-use Rattle.std.proofs.Common.{◌≡◌, ℕ, zero, suc, ◌==◌, false, not, get_or, replicate, None, refl, sym, subst, ap, ◌∙◌, ◌⊎◌, inl, inr}
+use Rattle.std.proofs.Common.{◌≡◌, ℕ, zero, suc, ◌+◌, ◌≤◌, arith, ◌==◌, false, not, get_or, replicate, None, refl, sym, subst, ap, ◌∙◌, ◌⊎◌, inl, inr}
 use Rattle.std.specs.List.{filter}
 use Rattle.std.proofs.lemmas.Bool.{and_from}
 use Rattle.std.proofs.lemmas.Nat.Bits.{bit_at-zero}
@@ -17,7 +17,8 @@ use Rattle.object_graph.proofs.Members.{In, in_filter, each_from}
 use Rattle.object_graph.proofs.Paths.{in_has_object}
 use Rattle.store_model.specs.Lawful.{IsOrderly}
 use Rattle.store_model.specs.Worlds.{is_unfreed}
-use Rattle.cut_model.specs.States.{State, state_of, state_after, generation_at, KeepsOpening}
+use Rattle.store_model.specs.States.{State, state_of, state_after}
+use Rattle.cut_model.specs.States.{generation_at, KeepsOpening}
 use Rattle.cut_model.specs.CutPages.{bare_page}
 use Rattle.cut_model.specs.Sound.{IsBornRight, IsSoundPage, IsSound}
 use Rattle.cut_model.specs.Changes.{ends_copying}
@@ -54,10 +55,18 @@ names_stay w after page slot lawful follows = elim follows [
   | inr s ↦ ap (λ (s : State). generation_at s.graph s.freed page slot) s.2 ∙ view_keeps_names w s.0 page slot lawful s.1
 ]
 
+-- the number of commits does not fall
+pub commits_stay : (w : World) (after : State) → StateFollows w after → w.commits ≤ after.commits
+commits_stay w after follows = elim follows [
+  | inl e ↦ let h : after.commits ≡ w.commits = ap (λ (s : State). s.commits) e in omega arith
+  | inr s ↦ let h : after.commits ≡ w.commits + 1 = ap (λ (s : State). s.commits) s.2 in omega arith
+]
+
 pub event_keeps_opening : (w : World) (opening : Opening) (call : Call) (note : Note) (reply : Reply) → IsOrderly w → IsOrderly (after_reply w call note reply)
     → AllowsReply w call note reply → ends_copying call ≡ false → KeepsOpening w opening → KeepsOpening (after_reply w call note reply) opening
 event_keeps_opening w opening call note reply lawful next may stays keeps = record {
   lost = event_keeps_lost w opening call note reply lawful next may keeps.lost;
+  commits = let h = commits_stay w (state_of (after_reply w call note reply)) (state_follows w call note reply may stays) in let k = keeps.commits in omega arith;
   names = λ page slot. names_stay w (state_of (after_reply w call note reply)) page slot lawful (state_follows w call note reply may stays) ∙ keeps.names page slot;
 }
 
@@ -65,7 +74,7 @@ event_keeps_opening w opening call note reply lawful next may stays keeps = reco
 
 -- the opening is kept as it is made
 pub opening_is_kept : (w : World) → IsOrderly w → KeepsOpening w (opening_of w)
-opening_is_kept w orderly = record { lost = opening_keeps_lost w orderly; names = λ page slot. refl }
+opening_is_kept w orderly = record { lost = opening_keeps_lost w orderly; commits = omega arith; names = λ page slot. refl }
 
 pub get-replicate_same : {A : Type 0} (n k : ℕ) (d : A) → get_or (replicate n d) k d ≡ d
 get-replicate_same zero k d = refl

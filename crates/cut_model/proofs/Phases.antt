@@ -22,7 +22,8 @@ use Rattle.store_model.specs.Worlds.{IsOutOfReach}
 use Rattle.object_graph.proofs.Members.{In}
 use Rattle.store_model.proofs.Allowed.{when_none, with_page_cases}
 use Rattle.store_model.specs.Lawful.{IsOrderly}
-use Rattle.cut_model.specs.States.{State, state_of, state_after, KeepsOpening}
+use Rattle.store_model.specs.States.{State, state_of, state_after}
+use Rattle.cut_model.specs.States.{KeepsOpening}
 use Rattle.cut_model.specs.CutPages.{Copied, CutPage, bare_page, with_copy}
 use Rattle.cut_model.specs.Sound.{IsSound}
 use Rattle.cut_model.specs.Frames.{copy_now}
@@ -36,7 +37,7 @@ use Rattle.cut_model.proofs.Fits.{fit_copy_keeps_cut, frame_keeps_cut}
 use Rattle.cut_model.proofs.Commits.{commit_keeps_cut}
 use Rattle.store_model.proofs.Opened.{nones, commit_is_open}
 use Rattle.store_model.proofs.Keeps.{lost_stays, freed_grows}
-use Rattle.cut_model.proofs.Openings.{StateFollows, names_stay, opening_is_kept, empty_cut_is_sound, get-replicate_same}
+use Rattle.cut_model.proofs.Openings.{StateFollows, names_stay, commits_stay, opening_is_kept, empty_cut_is_sound, get-replicate_same}
 use Rattle.cut_model.proofs.Sweeps.{doomed_stays, sweep_keeps_doomed, doomed_may_be_freed}
 use Rattle.store_model.proofs.Lists.{with_page_has, with_page_keeps, find_none_each, in_below}
 use Rattle.store_model.proofs.Lawfulness.{event_is_lawful}
@@ -55,6 +56,7 @@ freed_same w after f = elim f [ inl e ↦ ap (λ (s : State). s.freed) e | inr s
 opening_stays : (w after : World) (opening : Opening) → IsOrderly w → IsOrderly after → StateFollows w (state_of after) → KeepsOpening w opening → KeepsOpening after opening
 opening_stays w after opening lawful next f keeps = record {
   lost = lost_stays w after opening next (graph_follows w after lawful f) ([], freed_same w after f) keeps.lost;
+  commits = let h = commits_stay w (state_of after) f in let k = keeps.commits in omega arith;
   names = λ page slot. names_stay w (state_of after) page slot lawful f ∙ keeps.names page slot;
 }
 

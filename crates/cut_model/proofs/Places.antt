@@ -6,7 +6,7 @@ use Rattle.object_graph.specs.NameParts.{NameParts}
 use Rattle.object_graph.specs.Names.{root_name}
 use Rattle.object_graph.specs.SlotParts.{SlotParts}
 use Rattle.object_graph.specs.Slots.{has_slot}
-use Rattle.object_graph.specs.declared.names.Object.{Object}
+use Rattle.object_graph.specs.ObjectParts.{ObjectParts}
 use Rattle.object_graph.specs.Graphs.{has_object, has_name, objects_at}
 use Rattle.store_model.specs.Worlds.{World, Opening, is_freed}
 use Rattle.object_graph.proofs.Members.{In}
@@ -28,21 +28,21 @@ same_name : (a b : NameParts) → a.page ≡ b.page → a.slot ≡ b.slot → a.
 same_name a b p q r = ap (λ k. name_of k a.slot a.generation) p ∙ (ap (λ k. name_of b.page k a.generation) q ∙ ap (λ k. name_of b.page b.slot k) r)
 
 -- in the images of a sound cut a place is in use under one name
-pub one_name : (opening : Opening) (a b : Object) → IsSafeObject opening a → IsSafeObject opening b → a.name.page ≡ b.name.page → a.name.slot ≡ b.name.slot → a.name ≡ b.name
+pub one_name : (opening : Opening) (a b : ObjectParts) → IsSafeObject opening a → IsSafeObject opening b → a.name.page ≡ b.name.page → a.name.slot ≡ b.name.slot → a.name ≡ b.name
 one_name opening a b sa sb p q =
     same_name a.name b.name p q
     (sa.name ∙ (ap (λ k. generation_at opening.graph opening.freed k a.name.slot) p ∙ (ap (λ k. generation_at opening.graph opening.freed b.name.page k) q ∙ sym sb.name)))
 
 -- the name of place (0, 0) is the root's
-first_generation : (os : List Object) (names : ℕ) (o : Object) → In o os → ((a b : Object) → In a os → In b os → a ≡ b) → generation_with os names ≡ o.name.generation
+first_generation : (os : List ObjectParts) (names : ℕ) (o : ObjectParts) → In o os → ((a b : ObjectParts) → In a os → In b os → a ≡ b) → generation_with os names ≡ o.name.generation
 first_generation [] names o m same = absurd m
-first_generation (h ∷ hs) names o m same = ap (λ (x : Object). x.name.generation) (same h o (inl refl) m)
+first_generation (h ∷ hs) names o m same = ap (λ (x : ObjectParts). x.name.generation) (same h o (inl refl) m)
 
 pub root_place : (w : World) → IsOrderly w → generation_at w.graph w.freed 0 0 ≡ 1
 root_place w lawful =
     let r = and_parts (has_object w.graph root_name) (not (is_freed w root_name)) lawful.root in
     let a = has_object_in w.graph root_name r.0 in
-    let o : Object = a.0 in
+    let o : ObjectParts = a.0 in
     let u : is_unfreed w.freed o ≡ true = subst (λ n. not (has_name w.freed n) ≡ true) (sym a.2) r.1 in
     let m : In o (unfreed_at w.graph w.freed 0 0) = subst (λ (n : NameParts). In o (unfreed_at w.graph w.freed n.page n.slot)) a.2 (in_unfreed_at w.graph w.freed o a.1 u) in
     first_generation (unfreed_at w.graph w.freed 0 0) (length (objects_at w.graph 0 0)) o m (one_each w.graph w.freed lawful.counted lawful.last 0 0)
@@ -63,13 +63,13 @@ and_not false b c h = cc
 
 -- the slots in use in the settled image, neither born nor marked, are those of the doomed names
 pub doomed_slots : (opening : Opening) (roots : List NameParts) (pages : List CutPage) (marks : ℕ → ℕ) (page slots : ℕ) (image : List SlotParts)
-    → ((o : Object) → In o (cut_graph pages) → IsSafeObject opening o) → page < length pages → settled_image (get_or pages page bare_page) ≡ Some image
+    → ((o : ObjectParts) → In o (cut_graph pages) → IsSafeObject opening o) → page < length pages → settled_image (get_or pages page bare_page) ≡ Some image
     → AreMarks roots pages marks → ((slot : ℕ) → has_slot slots slot ≡ is_doomed image (get_or pages page bare_page).born (marks page) slot)
     → AreDoomedOn roots pages page slots
 doomed_slots opening roots pages marks page slots image safe within settled marked is = λ slot. (
   λ h.
       let a = and_not (is_used image slot) (has_slot (get_or pages page bare_page).born slot) (has_slot (marks page) slot) (sym (is slot) ∙ h) in
-      let o : Object = object_in page slot (get_or image slot no_slot) in
+      let o : ObjectParts = object_in page slot (get_or image slot no_slot) in
       let low = used_within image slot a.0 in
       let doomed : IsDoomed roots pages o.name = record {
         image = image;
@@ -85,13 +85,13 @@ doomed_slots opening roots pages marks page slots image safe within settled mark
   λ n. is slot ∙ (doomed_here slot n.0 n.1 n.2 n.3),
 )
   where
-    unmarked_here : (name : NameParts) (o : Object) → In o (cut_graph pages) → o.name ≡ name → name.page ≡ page → ¬ IsMarked roots pages name → has_slot (marks page) name.slot ≡ false
+    unmarked_here : (name : NameParts) (o : ObjectParts) → In o (cut_graph pages) → o.name ≡ name → name.page ≡ page → ¬ IsMarked roots pages name → has_slot (marks page) name.slot ≡ false
     unmarked_here name o m named on un = elim (cases_Bool (has_slot (marks page) name.slot)) [
       | inr e ↦ e
       | inl e ↦
           let n = (marked page name.slot).0 e in
           let there = has_object_in (cut_graph pages) n.0 (path_last (cut_graph pages) n.1.0 n.1.2.0 n.0 n.1.2.1) in
-          let q : Object = there.0 in
+          let q : ObjectParts = there.0 in
           let p : q.name.page ≡ o.name.page = ap (λ (k : NameParts). k.page) there.2 ∙ (n.2 ∙ (sym on ∙ sym (ap (λ (k : NameParts). k.page) named))) in
           let s : q.name.slot ≡ o.name.slot = ap (λ (k : NameParts). k.slot) there.2 ∙ (n.3 ∙ sym (ap (λ (k : NameParts). k.slot) named)) in
           let same : n.0 ≡ name = sym there.2 ∙ (one_name opening q o (safe q there.1) (safe o m) p s ∙ named) in
@@ -104,7 +104,7 @@ doomed_slots opening roots pages marks page slots image safe within settled mark
         let same : d.image ≡ image = cc in
         let shown : In d.object (objects_of page image) = subst (λ i. In d.object (objects_of page i)) same (subst (λ k. In d.object (objects_of k d.image)) on d.shown) in
         let s = in_objects_of page image d.object shown in
-        let is_slot : s.slot ≡ slot = sym (ap (λ (o : Object). o.name.slot) s.is) ∙ (ap (λ (n : NameParts). n.slot) d.named ∙ at) in
+        let is_slot : s.slot ≡ slot = sym (ap (λ (o : ObjectParts). o.name.slot) s.is) ∙ (ap (λ (n : NameParts). n.slot) d.named ∙ at) in
         let used : is_used image slot ≡ true = subst (λ k. is_used image k ≡ true) is_slot s.in_use in
         let graph = in_cut_graph pages page image d.object within (settled_in (get_or pages page bare_page) image settled) shown in
         let unborn : has_slot (get_or pages page bare_page).born slot ≡ false =

@@ -6,7 +6,7 @@ use Rattle.object_graph.specs.NameParts.{NameParts}
 use Rattle.object_graph.specs.Names.{name_eq}
 use Rattle.object_graph.specs.SlotParts.{SlotParts}
 use Rattle.object_graph.specs.Slots.{has_slot}
-use Rattle.object_graph.specs.declared.names.Object.{Object}
+use Rattle.object_graph.specs.ObjectParts.{ObjectParts}
 use Rattle.object_graph.specs.Graphs.{has_name, has_object, is_to, IsPath}
 use Rattle.store_model.specs.Worlds.{World, Opening, starts, is_freed, IsReached}
 use Rattle.store_model.specs.Lawful.{IsPlaced}
@@ -17,7 +17,7 @@ use Rattle.store_model.proofs.OutOfReach.{unreached_is_out, reached_unfreed}
 use Rattle.store_model.specs.Lawful.{KeepsLost}
 use Rattle.store_model.specs.Worlds.{is_unfreed, is_old, IsLost}
 use Rattle.store_model.specs.Images.{shown, objects_of}
-use Rattle.cut_model.specs.States.{State, state_of}
+use Rattle.store_model.specs.States.{State, state_of}
 use Rattle.cut_model.specs.CutPages.{CutPage, bare_page, settled_image, cut_graph, IsMarked}
 use Rattle.cut_model.specs.Sound.{IsBornRight, IsSound, IsClosedBeside}
 use Rattle.cut_model.specs.Doomed.{IsDoomed, IsSafeToFree, KeepsDoomed}
@@ -25,11 +25,11 @@ use Rattle.store_model.proofs.Shown.{one_each, in_shown, shows_object}
 use Rattle.cut_model.proofs.CutGraphs.{settled_in, settled_shown, in_cut_graph, cut_graph_safe}
 
 -- an unfreed object is in the settled image of its page
-pub settled_has : (w : World) (opening : Opening) (pages : List CutPage) (o : Object) → IsClosedBeside w opening pages → In o w.graph → is_unfreed w.freed o ≡ true
+pub settled_has : (w : World) (opening : Opening) (pages : List CutPage) (o : ObjectParts) → IsClosedBeside w opening pages → In o w.graph → is_unfreed w.freed o ≡ true
     → (o.name.page < length pages) × (settled_image (get_or pages o.name.page bare_page) ≡ Some (shown w o.name.page))
     × In o (objects_of o.name.page (shown w o.name.page))
 settled_has w opening pages o closed m u =
-    let placed = each_in (λ (o : Object). IsPlaced w.pages (slots_of w) o.name) w.graph o closed.orderly.placed m in
+    let placed = each_in (λ (o : ObjectParts). IsPlaced w.pages (slots_of w) o.name) w.graph o closed.orderly.placed m in
     let within : o.name.page < length pages = let p = placed.0 in let e = closed.all in omega arith in (
       within,
       settled_shown (state_of w) opening o.name.page (get_or pages o.name.page bare_page) (closed.sound o.name.page within) (closed.copied o.name.page within),
@@ -37,7 +37,7 @@ settled_has w opening pages o closed m u =
     )
 
 -- so it is in the graph of the cut
-pub graph_in_cut : (w : World) (opening : Opening) (pages : List CutPage) (o : Object) → IsClosedBeside w opening pages → In o w.graph → is_unfreed w.freed o ≡ true → In o (cut_graph pages)
+pub graph_in_cut : (w : World) (opening : Opening) (pages : List CutPage) (o : ObjectParts) → IsClosedBeside w opening pages → In o w.graph → is_unfreed w.freed o ≡ true → In o (cut_graph pages)
 graph_in_cut w opening pages o closed m u =
     let h = settled_has w opening pages o closed m u in
     in_cut_graph pages o.name.page (shown w o.name.page) o h.0
@@ -52,17 +52,17 @@ path_in_cut w opening pages first [] last closed reached p = (p.0, there w openi
         → has_object (cut_graph pages) name ≡ true
     there w opening pages name closed reached h =
         let a = has_object_in w.graph name h in
-        let o : Object = a.0 in
+        let o : ObjectParts = a.0 in
         let u : is_unfreed w.freed o ≡ true = subst (λ n. not (has_name w.freed n) ≡ true) (sym a.2) (reached_unfreed w name closed.freed reached) in
         subst (λ n. has_object (cut_graph pages) n ≡ true) a.2 (in_has_object (cut_graph pages) o (graph_in_cut w opening pages o closed a.1 u))
 path_in_cut w opening pages first (n ∷ ns) last closed reached p =
-    let a = any_in (λ (o : Object). name_eq o.name first && list_any (is_to n) o.refs) w.graph p.0 in
-    let o : Object = a.0 in
+    let a = any_in (λ (o : ObjectParts). name_eq o.name first && list_any (is_to n) o.refs) w.graph p.0 in
+    let o : ObjectParts = a.0 in
     let b = and_parts (name_eq o.name first) (list_any (is_to n) o.refs) a.2 in
     let same = name_eq_same o.name first b.0 in
     let u : is_unfreed w.freed o ≡ true = subst (λ n. not (has_name w.freed n) ≡ true) (sym same) (reached_unfreed w first closed.freed reached) in
     let m : In o (cut_graph pages) = graph_in_cut w opening pages o closed a.1 u in (
-      in_any (λ (o : Object). name_eq o.name first && list_any (is_to n) o.refs) (cut_graph pages) o m a.2,
+      in_any (λ (o : ObjectParts). name_eq o.name first && list_any (is_to n) o.refs) (cut_graph pages) o m a.2,
       subst (λ n. has_object (cut_graph pages) n ≡ true) same (in_has_object (cut_graph pages) o m),
       path_in_cut w opening pages n ns last closed (reached_more w.graph (starts w) first n reached p.0 (path_first w.graph n ns last p.2)) p.2,
     )
@@ -77,7 +77,7 @@ reached_is_marked w opening pages name closed reached = (
 )
 
 -- a slot in use in a settled image, neither born nor marked, has an unfreed name that was there and is out of reach
-pub doomed_is_safe : (w : World) (opening : Opening) (pages : List CutPage) (page : ℕ) (image : List SlotParts) (o : Object) → IsClosedBeside w opening pages
+pub doomed_is_safe : (w : World) (opening : Opening) (pages : List CutPage) (page : ℕ) (image : List SlotParts) (o : ObjectParts) → IsClosedBeside w opening pages
     → page < length pages → settled_image (get_or pages page bare_page) ≡ Some image → In o (objects_of page image)
     → has_slot (get_or pages page bare_page).born o.name.slot ≡ false → ¬ IsMarked (starts w) pages o.name → IsSafeToFree w opening o.name
 doomed_is_safe w opening pages page image o closed within settled m unborn unmarked =
@@ -103,8 +103,8 @@ safe_path : (s : State) (opening : Opening) (pages : List CutPage) (first : Name
     → ¬ IsLost opening first → IsPath (cut_graph pages) first rest last → ¬ IsLost opening last
 safe_path s opening pages first [] last sound safe p = subst (λ n. ¬ IsLost opening n) p.0 safe
 safe_path s opening pages first (n ∷ ns) last sound safe p =
-    let a = any_in (λ (o : Object). name_eq o.name first && list_any (is_to n) o.refs) (cut_graph pages) p.0 in
-    let o : Object = a.0 in
+    let a = any_in (λ (o : ObjectParts). name_eq o.name first && list_any (is_to n) o.refs) (cut_graph pages) p.0 in
+    let o : ObjectParts = a.0 in
     let b = and_parts (name_eq o.name first) (list_any (is_to n) o.refs) a.2 in
     let same = name_eq_same o.name first b.0 in
     let object = cut_graph_safe s opening pages o sound a.1 in
@@ -126,7 +126,7 @@ pub lost_is_doomed : (w : World) (opening : Opening) (pages : List CutPage) (nam
     → IsLost opening name → not (is_freed w name) ≡ true → IsDoomed (starts w) pages name
 lost_is_doomed w opening pages name closed lost unfreed =
     let a = has_object_in w.graph name (closed.keeps.lost.there name lost.old) in
-    let o : Object = a.0 in
+    let o : ObjectParts = a.0 in
     let u : is_unfreed w.freed o ≡ true = subst (λ n. not (has_name w.freed n) ≡ true) (sym a.2) unfreed in
     let h = settled_has w opening pages o closed a.1 u in
     let sound = closed.sound o.name.page h.0 in

@@ -4,7 +4,7 @@ use Rattle.object_graph.specs.NameParts.{NameParts}
 use Rattle.object_graph.specs.Names.{root_name}
 use Rattle.object_graph.specs.SlotParts.{SlotParts}
 use Rattle.store_model.specs.Images.{shown_of, no_slot}
-use Rattle.cut_model.specs.States.{state_of}
+use Rattle.store_model.specs.States.{state_of}
 use Rattle.cut_model.specs.CutPages.{IsMarked}
 use Rattle.cut_model.specs.Sound.{IsSound}
 use Rattle.cut_model.specs.Examples.{dirty_at, dirty_opening, linked, dirty_cut, lossy_cut, moved_at, moved_opening, target, moved_cut, stale_cut}

@@ -2,9 +2,10 @@
 use Rattle.std.proofs.Common.{◌≡◌, ℕ, ◌==◌, Bool, true, false, not, ◌&&◌, ◌||◌, cond, List, [], ◌∷◌, ◌++◌, map, length, refl, sym, subst, ap, ◌∙◌, inl, inr}
 use Rattle.std.specs.List.{list_all, filter}
 use Rattle.std.proofs.lemmas.Bool.{and_from, cases_Bool, eqb-true, eq-eqb, not-true}
+use Rattle.object_graph.specs.declared.limits.TheConstants.{MOST_SLOTS}
 use Rattle.object_graph.specs.NameParts.{NameParts}
 use Rattle.object_graph.specs.Slots.{has_slot}
-use Rattle.object_graph.specs.declared.names.Object.{Object}
+use Rattle.object_graph.specs.ObjectParts.{ObjectParts}
 use Rattle.object_graph.specs.Graphs.{has_name, objects_at}
 use Rattle.object_graph.specs.Slots.{below, slots_in}
 use Rattle.store_model.specs.Worlds.{World, Opening, OpenedCut, is_freed, unfreed}
@@ -25,28 +26,28 @@ use Rattle.store_model.proofs.OutOfReach.{Follows, name_stays, out_stays}
 
 -- ---- one unfreed object at a place
 
-in_map_filter : (p : Object → Bool) (os : List Object) (n : ℕ) → In n (map generation_of (filter p os)) → In n (map generation_of os)
+in_map_filter : (p : ObjectParts → Bool) (os : List ObjectParts) (n : ℕ) → In n (map generation_of (filter p os)) → In n (map generation_of os)
 in_map_filter p os n m =
     let a = in_map generation_of (filter p os) n m in
     subst (λ k. In k (map generation_of os)) (sym a.2) (map_in generation_of os a.0 (in_filter p os a.0 a.1).0)
 
-apart_filter : (p : Object → Bool) (os : List Object) → AreApart (map generation_of os) → AreApart (map generation_of (filter p os))
+apart_filter : (p : ObjectParts → Bool) (os : List ObjectParts) → AreApart (map generation_of os) → AreApart (map generation_of (filter p os))
 apart_filter p [] h = tt
 apart_filter p (o ∷ os) h = by_test p o os h (apart_filter p os h.1) (p o)
   where
-    by_test : (p : Object → Bool) (o : Object) (os : List Object) → AreApart (map generation_of (o ∷ os)) → AreApart (map generation_of (filter p os)) → (b : Bool)
+    by_test : (p : ObjectParts → Bool) (o : ObjectParts) (os : List ObjectParts) → AreApart (map generation_of (o ∷ os)) → AreApart (map generation_of (filter p os)) → (b : Bool)
         → AreApart (map generation_of (cond b (o ∷ filter p os) (filter p os)))
     by_test p o os h k true = (λ m. h.0 (in_map_filter p os o.name.generation m), k)
     by_test p o os h k false = k
 
-just_one : (os : List Object) (o : Object) → In o os → AreApart (map generation_of os) → ((a b : Object) → In a os → In b os → a ≡ b) → length os ≡ 1
+just_one : (os : List ObjectParts) (o : ObjectParts) → In o os → AreApart (map generation_of os) → ((a b : ObjectParts) → In a os → In b os → a ≡ b) → length os ≡ 1
 just_one [] o m apart same = absurd m
 just_one (a ∷ []) o m apart same = refl
 just_one (a ∷ b ∷ os) o m apart same =
     let e : a ≡ b = same a b (inl refl) (inr (inl refl)) in
     absurd (apart.0 (inl (ap generation_of e)))
 
-pub one_unfreed : (w : World) (page slot : ℕ) (o : Object) → IsOrderly w → In o (unfreed_at w.graph w.freed page slot) → length (unfreed_at w.graph w.freed page slot) ≡ 1
+pub one_unfreed : (w : World) (page slot : ℕ) (o : ObjectParts) → IsOrderly w → In o (unfreed_at w.graph w.freed page slot) → length (unfreed_at w.graph w.freed page slot) ≡ 1
 one_unfreed w page slot o lawful m =
     just_one (unfreed_at w.graph w.freed page slot) o m
     (apart_filter (is_unfreed w.freed) (objects_at w.graph page slot)
@@ -56,18 +57,18 @@ one_unfreed w page slot o lawful m =
 -- ---- a sweep of the doomed slots is allowed
 
 -- an unfreed name has its object
-unfreed_object : (w : World) (opening : Opening) (name : NameParts) → IsSafeToFree w opening name → (o : Object) × In o (unfreed_at w.graph w.freed name.page name.slot) × (o.name ≡ name)
+unfreed_object : (w : World) (opening : Opening) (name : NameParts) → IsSafeToFree w opening name → (o : ObjectParts) × In o (unfreed_at w.graph w.freed name.page name.slot) × (o.name ≡ name)
 unfreed_object w opening name safe =
     let a = has_object_in w.graph name safe.there in
-    let o : Object = a.0 in
+    let o : ObjectParts = a.0 in
     let u : is_unfreed w.freed o ≡ true = subst (λ n. not (has_name w.freed n) ≡ true) (sym a.2) safe.unfreed in
     (o, subst (λ (n : NameParts). In o (unfreed_at w.graph w.freed n.page n.slot)) a.2 (in_unfreed_at w.graph w.freed o a.1 u), a.2)
 
-names_in_in : (w : World) (page slots : ℕ) (o : Object) → In o w.graph → is_unfreed w.freed o ≡ true → o.name.page ≡ page → has_slot slots o.name.slot ≡ true
+names_in_in : (w : World) (page slots : ℕ) (o : ObjectParts) → In o w.graph → is_unfreed w.freed o ≡ true → o.name.page ≡ page → has_slot slots o.name.slot ≡ true
     → In o.name (names_in w page slots)
 names_in_in w page slots o m u p s =
-    map_in (λ (o : Object). o.name) (filter (λ (o : Object). (o.name.page == page) && has_slot slots o.name.slot) (unfreed w)) o
-    (filter_in (λ (o : Object). (o.name.page == page) && has_slot slots o.name.slot) (unfreed w) o
+    map_in (λ (o : ObjectParts). o.name) (filter (λ (o : ObjectParts). (o.name.page == page) && has_slot slots o.name.slot) (unfreed w)) o
+    (filter_in (λ (o : ObjectParts). (o.name.page == page) && has_slot slots o.name.slot) (unfreed w) o
     (filter_in (is_unfreed w.freed) w.graph o m u) (and_from (o.name.page == page) (has_slot slots o.name.slot) (eq-eqb o.name.page page p) s))
 
 list_all_from : {A : Type 0} (p : A → Bool) (xs : List A) → ((x : A) → In x xs → p x ≡ true) → list_all p xs ≡ true
@@ -79,7 +80,7 @@ pub doomed_may_be_freed : (w : World) (cut : OpenedCut) (roots : List NameParts)
     → has_page cut.swept page ≡ false → AreDoomedOn roots pages page slots → MayFree w cut.opening page slots
 doomed_may_be_freed w cut roots pages page slots lawful keeps unswept doomed = record {
   one_each = list_all_from (λ slot. length (filter (is_unfreed w.freed) (objects_at w.graph page slot)) == 1) (slots_in slots) (λ slot m.
-      let a = in_filter (has_slot slots) (below 40) slot m in
+      let a = in_filter (has_slot slots) (below MOST_SLOTS) slot m in
       let n = (doomed slot).0 a.1 in
       let safe = keeps.safe n.0 n.1 (subst (λ p. has_page cut.swept p ≡ false) (sym n.2) unswept) in
       let o = unfreed_object w cut.opening n.0 safe in
@@ -88,7 +89,7 @@ doomed_may_be_freed w cut roots pages page slots lawful keeps unswept doomed = r
       eq-eqb (length (unfreed_at w.graph w.freed page slot)) 1 (one_unfreed w page slot o.0 lawful there));
   safe = each_from (IsGarbage w cut.opening) (names_in w page slots) (λ name m.
       let a = in_names_in w page slots name m in
-      let o : Object = a.0 in
+      let o : ObjectParts = a.0 in
       let n = (doomed o.name.slot).0 a.4 in
       let safe = keeps.safe n.0 n.1 (subst (λ p. has_page cut.swept p ≡ false) (sym n.2) unswept) in
       let q = unfreed_object w cut.opening n.0 safe in
@@ -96,7 +97,7 @@ doomed_may_be_freed w cut roots pages page slots lawful keeps unswept doomed = r
       subst (λ p. In q.0 (unfreed_at w.graph w.freed p o.name.slot)) n.2 (subst (λ s. In q.0 (unfreed_at w.graph w.freed (n.0).page s)) n.3 q.1) in
       let here : In o (unfreed_at w.graph w.freed page o.name.slot) = subst (λ p. In o (unfreed_at w.graph w.freed p o.name.slot)) a.3 (in_unfreed_at w.graph w.freed o a.1 a.2) in
       let same : q.0 ≡ o = one_each w.graph w.freed lawful.counted lawful.last page o.name.slot q.0 o there here in
-      let is : n.0 ≡ name = sym q.2 ∙ (ap (λ (x : Object). x.name) same ∙ sym a.5) in
+      let is : n.0 ≡ name = sym q.2 ∙ (ap (λ (x : ObjectParts). x.name) same ∙ sym a.5) in
       let garbage : IsGarbage w cut.opening n.0 = record { old = safe.old; out = safe.out } in
       subst (IsGarbage w cut.opening) is garbage);
   complete = λ name lost on unfreed.
@@ -104,7 +105,7 @@ doomed_may_be_freed w cut roots pages page slots lawful keeps unswept doomed = r
       let has = (doomed name.slot).1 (name, d.1, on, refl) in
       let safe = keeps.safe name d.1 d.0 in
       let a = has_object_in w.graph name safe.there in
-      let o : Object = a.0 in
+      let o : ObjectParts = a.0 in
       let u : is_unfreed w.freed o ≡ true = subst (λ n. not (has_name w.freed n) ≡ true) (sym a.2) unfreed in
       in_has_name (names_in w page slots) name
       (subst (λ n. In n (names_in w page slots)) a.2

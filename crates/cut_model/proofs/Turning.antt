@@ -10,7 +10,7 @@ use Rattle.object_graph.specs.declared.calls.Reply.TheVariants.{Refused}
 use Rattle.store_model.specs.Worlds.{World, OpenedCut, Event, transaction, starts}
 use Rattle.store_model.specs.Replies.{Allows}
 use Rattle.store_model.specs.Steps.{next}
-use Rattle.cut_model.specs.States.{state_of}
+use Rattle.store_model.specs.States.{state_of}
 use Rattle.cut_model.specs.CutPages.{Copied, bare_page}
 use Rattle.cut_model.specs.Sound.{IsFitCopy}
 use Rattle.cut_model.specs.Frames.{copy_now}

@@ -11,7 +11,7 @@ use Rattle.object_graph.specs.Graphs.{is_at}
 use Rattle.store_model.specs.Worlds.{World, Transaction, Opening, transaction, view}
 use Rattle.store_model.specs.Causes.{has_page}
 use Rattle.store_model.specs.Images.{shown_in}
-use Rattle.cut_model.specs.States.{state_of}
+use Rattle.store_model.specs.States.{state_of}
 use Rattle.cut_model.specs.CutPages.{Copied, CutPage, bare_page, with_copy, with_commit, with_born}
 use Rattle.cut_model.specs.Sound.{IsFitCopy}
 use Rattle.cut_model.specs.Frames.{copy_now}
@@ -35,10 +35,14 @@ pub record IsCutAfter (w : World) (t : Transaction) (pages after : List CutPage)
       → IsPageAfter (shown_in w (view w t) page) (w.commits + 1) (made page) (slice_index_or pages page bare_page) (slice_index_or after page bare_page)
 
 -- each page that a commit wrote has an after-image
-abbrev pub GivesImages : World → Call → List CutPage → Type 0
-GivesImages w (Commit t) after =
+abbrev pub GivesImagesBy : World → Call → List CutPage → Type 0
+GivesImagesBy w (Commit t) after =
     (page : ℕ) → page < length after → has_page (transaction w t).pages_written page ≡ true → IsTrue (is_some (slice_index_or after page bare_page).after)
-GivesImages w _ after = Unit {0}
+GivesImagesBy w _ after = Unit {0}
+
+abbrev pub GivesImages : World → Call → Reply → List CutPage → Type 0
+GivesImages w call (Refused why) after = Unit {0}
+GivesImages w call reply after = GivesImagesBy w call after
 
 -- a copy of a page is added
 abbrev pub Adds : ℕ → Copied → List CutPage → List CutPage → Type 0

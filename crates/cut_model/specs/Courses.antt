@@ -2,7 +2,7 @@
 use Rattle.std.specs.Prelude.{◌≡◌, ◌≢◌, ℕ, ◌<◌, Some, List, ◌∷◌, ◌++◌}
 use Rattle.object_graph.specs.declared.calls.Call.{Call}
 use Rattle.object_graph.specs.declared.calls.Call.TheVariants.{Copy, HandIn, Close, Mark, Sweep, EndCut, DropCut, Reopen}
-use Rattle.object_graph.specs.declared.calls.Reply.TheVariants.{Refused}
+use Rattle.object_graph.specs.declared.calls.Reply.TheVariants.{Done, Refused}
 use Rattle.object_graph.specs.declared.calls.Refusal.TheVariants.{DiskFault}
 use Rattle.object_graph.specs.Members.{In}
 use Rattle.store_model.specs.Worlds.{Event, marks}
@@ -10,7 +10,7 @@ use Rattle.store_model.specs.Worlds.{Event, marks}
 -- no fault, and no call that takes the cut away
 pub record IsUndisturbing (e : Event) : Type 0 where
   pub no_fault : e.entry.reply ≢ Refused DiskFault
-  pub no_end : e.entry.call ≢ EndCut
+  pub no_end : e.entry.call ≡ EndCut → e.entry.reply ≢ Done
   pub no_drop : e.entry.call ≢ DropCut
   pub no_reopening : e.entry.call ≢ Reopen
 

@@ -3,7 +3,7 @@ use Rattle.std.specs.Prelude.{ℕ, Option, Some, None, List, [], ◌∷◌, ◌+
 use Rattle.std.specs.List.{flat_map}
 use Rattle.object_graph.specs.NameParts.{NameParts}
 use Rattle.object_graph.specs.SlotParts.{SlotParts}
-use Rattle.object_graph.specs.declared.names.Object.{Object}
+use Rattle.object_graph.specs.ObjectParts.{ObjectParts}
 use Rattle.object_graph.specs.Graphs.{IsReachedFrom}
 use Rattle.object_graph.specs.Slots.{below}
 use Rattle.store_model.specs.Images.{objects_of}
@@ -67,10 +67,10 @@ abbrev pub with_copy : Copied → CutPage → CutPage
 with_copy c p = record p { copy = Some c; after = kept_beside c.moment p.after }
 
 -- the objects in all images of a page, and of all pages: the graph of a cut
-abbrev pub objects_on : ℕ → CutPage → List Object
+abbrev pub objects_on : ℕ → CutPage → List ObjectParts
 objects_on page p = flat_map (objects_of page) (images_of p)
 
-abbrev pub cut_graph : List CutPage → List Object
+abbrev pub cut_graph : List CutPage → List ObjectParts
 cut_graph pages = flat_map (λ page. objects_on page (slice_index_or pages page bare_page)) (below (length pages))
 
 -- the marks: what is reached in the graph of the cut

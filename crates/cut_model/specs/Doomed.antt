@@ -3,7 +3,7 @@ use Rattle.std.specs.Prelude.{◌≡◌, ◌↔◌, ℕ, ◌<◌, Bool, false, n
 use Rattle.object_graph.specs.NameParts.{NameParts}
 use Rattle.object_graph.specs.SlotParts.{SlotParts}
 use Rattle.object_graph.specs.Slots.{has_slot}
-use Rattle.object_graph.specs.declared.names.Object.{Object}
+use Rattle.object_graph.specs.ObjectParts.{ObjectParts}
 use Rattle.object_graph.specs.Graphs.{has_object}
 use Rattle.store_model.specs.Worlds.{World, Opening, is_freed}
 use Rattle.store_model.specs.Causes.{has_page}
@@ -16,7 +16,7 @@ use Rattle.cut_model.specs.CutPages.{CutPage, bare_page, settled_image, IsMarked
 -- a name in use in the settled image of its page, neither born nor marked
 pub record IsDoomed (roots : List NameParts) (pages : List CutPage) (name : NameParts) : Type 0 where
   pub image : List SlotParts
-  pub object : Object
+  pub object : ObjectParts
   pub within : name.page < length pages
   pub settled : settled_image (slice_index_or pages name.page bare_page) ≡ Some image
   pub shown : In object (objects_of name.page image)

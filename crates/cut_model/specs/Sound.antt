@@ -4,18 +4,19 @@ use Rattle.std.specs.List.{list_any, AllByRecursion}
 use Rattle.object_graph.specs.NameParts.{NameParts}
 use Rattle.object_graph.specs.SlotParts.{SlotParts}
 use Rattle.object_graph.specs.Slots.{has_slot}
-use Rattle.object_graph.specs.declared.names.Object.{Object}
+use Rattle.object_graph.specs.ObjectParts.{ObjectParts}
 use Rattle.object_graph.specs.Graphs.{is_to}
 use Rattle.store_model.specs.Worlds.{World, Opening}
 use Rattle.store_model.specs.Worlds.{IsOutOfReach}
 use Rattle.store_model.specs.Lawful.{IsOrderly}
 use Rattle.store_model.specs.Worlds.{is_unfreed, is_old, IsLost}
-use Rattle.cut_model.specs.States.{State, state_of, KeepsOpening, generation_at, shown_by}
+use Rattle.store_model.specs.States.{State, state_of, shown_by}
+use Rattle.cut_model.specs.States.{KeepsOpening, generation_at}
 use Rattle.store_model.specs.Images.{objects_of}
 use Rattle.cut_model.specs.CutPages.{Copied, CutPage, bare_page, committed_image, settled_image, images_of_copy, images_of}
 
 -- an object in an image has the name of its place, and doesn't refer to what was lost, unless it was lost itself
-pub record IsSafeObject (opening : Opening) (o : Object) : Type 0 where
+pub record IsSafeObject (opening : Opening) (o : ObjectParts) : Type 0 where
   pub name : o.name.generation ≡ generation_at opening.graph opening.freed o.name.page o.name.slot
   pub kept : ¬ IsLost opening o.name → (target : NameParts) → IsLost opening target → ¬ IsTrue (list_any (is_to target) o.refs)
 
@@ -23,7 +24,7 @@ abbrev pub IsSafeImage : Opening → ℕ → List SlotParts → Type 0
 IsSafeImage opening page image = AllByRecursion (IsSafeObject opening) (objects_of page image)
 
 -- the unfreed objects of a page that weren't there as the cut opened are born
-abbrev pub IsBornRight : Opening → ℕ → ℕ → Object → Type 0
+abbrev pub IsBornRight : Opening → ℕ → ℕ → ObjectParts → Type 0
 IsBornRight opening page born o = o.name.page ≡ page → has_slot born o.name.slot ≡ not (is_old opening o.name)
 
 -- a page of a cut is sound
@@ -42,6 +43,7 @@ IsSound s opening pages = (page : ℕ) → page < length pages → IsSoundPage s
 pub record IsFitCopy (s : State) (opening : Opening) (page : ℕ) (p : CutPage) (c : Copied) : Type 0 where
   pub settled : (committed_image c ≡ shown_by s page) ⊎ IsSomeAnd p.after (λ a. c.moment < a.moment)
   pub images : AllByRecursion (IsSafeImage opening page) (images_of_copy (Some c))
+  pub since : opening.commits ≤ c.moment
   pub moment : c.moment ≤ s.commits
 
 abbrev pub IsFit : State → Opening → ℕ → CutPage → Copied → Type 0

@@ -7,13 +7,14 @@ use Rattle.object_graph.specs.declared.calls.Call.{Call}
 use Rattle.object_graph.specs.declared.calls.Call.TheVariants.{OpenCut, Close}
 use Rattle.object_graph.specs.declared.calls.Reply.{Reply}
 use Rattle.object_graph.specs.declared.calls.Reply.TheVariants.{Refused}
-use Rattle.object_graph.specs.declared.names.Object.{Object}
+use Rattle.object_graph.specs.ObjectParts.{ObjectParts}
 use Rattle.store_model.specs.Worlds.{World, OpenedCut, Event, starts}
 use Rattle.store_model.specs.Steps.{next}
 use Rattle.object_graph.specs.Members.{In}
 use Rattle.store_model.specs.Causes.{has_page}
 use Rattle.store_model.specs.Lawful.{KeepsLost, IsLawful}
-use Rattle.cut_model.specs.States.{state_of, KeepsOpening}
+use Rattle.store_model.specs.States.{state_of}
+use Rattle.cut_model.specs.States.{KeepsOpening}
 use Rattle.cut_model.specs.CutPages.{CutPage, bare_page, cut_graph}
 use Rattle.cut_model.specs.Sound.{IsSafeObject, IsSound}
 use Rattle.cut_model.specs.Changes.{ChangesBy}
@@ -37,7 +38,7 @@ pub record IsGiven (w : World) (cut : OpenedCut) (b : CutBeside) : Type 0 where
   pub keeps : KeepsLost w cut.opening
   pub all : length b.pages ≡ w.pages
   pub doomed : KeepsDoomed w cut.opening b.roots b.pages cut.swept
-  pub safe : (o : Object) → In o (cut_graph b.pages) → IsSafeObject cut.opening o
+  pub safe : (o : ObjectParts) → In o (cut_graph b.pages) → IsSafeObject cut.opening o
 
 abbrev pub IsInPhase : World → OpenedCut → Phase → CutBeside → Type 0
 IsInPhase w cut Copying b = IsCopying w cut b.pages

@@ -2,7 +2,7 @@
 ghost use Rattle.std.specs.Prelude.{◌≡◌, ℕ, ◌<◌, Some, None, List, [], length, slice_index_or, IsTrue};
 ghost use Rattle.object_graph.specs.NameParts.{NameParts};
 ghost use Rattle.object_graph.specs.SlotParts.{SlotParts};
-ghost use Rattle.object_graph.specs.declared.names.Object.{Object};
+ghost use Rattle.object_graph.specs.ObjectParts.{ObjectParts};
 ghost use Rattle.object_graph.specs.Slots.{has_slot};
 ghost use Rattle.object_graph.specs.declared.calls.Call.TheVariants.{Sweep};
 ghost use Rattle.object_graph.specs.declared.calls.Reply.TheVariants.{Freed};
@@ -35,14 +35,14 @@ pub fn a_closed_cut_is_safe_and_complete()
 
 /// In the images of a sound cut a place is in use under one name.
 pub fn one_name_stands_at_each_place()
-    ensures { (opening : Opening) (a b : Object) → IsSafeObject opening a → IsSafeObject opening b → a.name.page ≡ b.name.page → a.name.slot ≡ b.name.slot → a.name ≡ b.name }
+    ensures { (opening : Opening) (a b : ObjectParts) → IsSafeObject opening a → IsSafeObject opening b → a.name.page ≡ b.name.page → a.name.slot ≡ b.name.slot → a.name ≡ b.name }
 {}
 
 /// So the slots in use in a settled image that are neither born nor marked are those of the doomed
 /// names.
 pub fn doomed_slots_are_those_of_doomed_names()
     ensures { (opening : Opening) (roots : List NameParts) (pages : List CutPage) (marks : ℕ → ℕ) (page slots : ℕ) (image : List SlotParts)
-        → ((o : Object) → In o (cut_graph pages) → IsSafeObject opening o) → page < length pages → settled_image (slice_index_or pages page bare_page) ≡ Some image
+        → ((o : ObjectParts) → In o (cut_graph pages) → IsSafeObject opening o) → page < length pages → settled_image (slice_index_or pages page bare_page) ≡ Some image
         → AreMarks roots pages marks → ((slot : ℕ) → has_slot slots slot ≡ is_doomed image (slice_index_or pages page bare_page).born (marks page) slot)
         → AreDoomedOn roots pages page slots }
 {}

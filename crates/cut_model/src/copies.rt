@@ -7,7 +7,8 @@ ghost use Rattle.store_model.specs.Worlds.{World, Transaction, Opening, Note};
 ghost use Rattle.store_model.specs.Replies.{AllowsReply};
 ghost use Rattle.store_model.specs.Steps.{after_reply, opening_of};
 ghost use Rattle.store_model.specs.Lawful.{IsOrderly};
-ghost use Rattle.cut_model.specs.States.{State, state_of, state_after, KeepsOpening};
+ghost use Rattle.store_model.specs.States.{State, state_of, state_after};
+ghost use Rattle.cut_model.specs.States.{KeepsOpening};
 ghost use Rattle.cut_model.specs.CutPages.{CutPage, Copied, bare_page, with_copy};
 ghost use Rattle.cut_model.specs.Sound.{IsSound, IsFit, IsFitCopy};
 ghost use Rattle.cut_model.specs.Frames.{copy_now};
@@ -28,7 +29,7 @@ pub fn a_frame_is_a_fit_copy()
 /// that it wrote.
 pub fn a_fit_copy_stays_fit()
     ensures { (w : World) (opening : Opening) (call : AnyCall) (note : Note) (reply : AnyReply) (pages after : List CutPage) (page : ℕ) (c : Copied) → IsOrderly w
-        → page < length pages → AllowsReply w call note reply → ends_copying call ≡ false → Changes w opening call reply pages after → GivesImages w call after
+        → page < length pages → AllowsReply w call note reply → ends_copying call ≡ false → Changes w opening call reply pages after → GivesImages w call reply after
         → IsFit (state_of w) opening page (slice_index_or pages page bare_page) c
         → IsFit (state_of (after_reply w call note reply)) opening page (slice_index_or after page bare_page) c }
 {}

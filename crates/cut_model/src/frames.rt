@@ -3,7 +3,7 @@ ghost use Rattle.std.specs.Prelude.{◌≡◌, ◌≢◌, ℕ, ◌<◌, true, fa
 ghost use Rattle.std.specs.List.{list_any, AllByRecursion};
 ghost use Rattle.object_graph.specs.NameParts.{NameParts};
 ghost use Rattle.object_graph.specs.Names.{name_eq};
-ghost use Rattle.object_graph.specs.declared.names.Object.{Object};
+ghost use Rattle.object_graph.specs.ObjectParts.{ObjectParts};
 ghost use Rattle.object_graph.specs.Graphs.{has_name, is_at, objects_at};
 ghost use Rattle.object_graph.specs.Members.{In};
 ghost use Rattle.store_model.specs.Worlds.{World, Transaction, Write, slots_of, fields_of, starts, view, is_unfreed};
@@ -20,7 +20,7 @@ pub fn views_are_in_order()
 
 /// A write changes the slot of its object in the image of the page, and no other.
 pub fn a_write_changes_one_slot()
-    ensures { (w : World) (t : Transaction) (write : Write) (page : ℕ) (o : Object) → CountsUp (view w t) → OnlyLastUnfreed (view w t) w.freed → In o (view w t)
+    ensures { (w : World) (t : Transaction) (write : Write) (page : ℕ) (o : ObjectParts) → CountsUp (view w t) → OnlyLastUnfreed (view w t) w.freed → In o (view w t)
         → IsTrue (is_unfreed w.freed o) → o.name ≡ written_name write → (written_name write).slot < slots_of w (written_name write).page
         → shown_in w (view w (writes write page t)) (written_name write).page
         ≡ slice_set (shown_in w (view w t) (written_name write).page) (written_name write).slot
@@ -49,14 +49,14 @@ pub fn a_new_object_leaves_other_slots()
 
 /// A slot whose name is freed is free, and keeps its generation.
 pub fn a_sweep_frees_its_slots()
-    ensures { (fields : ℕ) (graph : List Object) (freed names : List NameParts) (o : Object) → CountsUp graph → OnlyLastUnfreed graph freed → In o graph → IsTrue (is_unfreed freed o)
+    ensures { (fields : ℕ) (graph : List ObjectParts) (freed names : List NameParts) (o : ObjectParts) → CountsUp graph → OnlyLastUnfreed graph freed → In o graph → IsTrue (is_unfreed freed o)
         → IsTrue (has_name names o.name)
         → shown_slot fields graph (names ++ freed) o.name.page o.name.slot ≡ freed_slot fields (shown_slot fields graph freed o.name.page o.name.slot) }
 {}
 
 /// The other slots stay.
 pub fn a_sweep_leaves_other_slots()
-    ensures { (fields : ℕ) (graph : List Object) (freed names : List NameParts) (page slot : ℕ) → ((o : Object) → In o (unfreed_at graph freed page slot) → has_name names o.name ≡ false)
+    ensures { (fields : ℕ) (graph : List ObjectParts) (freed names : List NameParts) (page slot : ℕ) → ((o : ObjectParts) → In o (unfreed_at graph freed page slot) → has_name names o.name ≡ false)
         → shown_slot fields graph (names ++ freed) page slot ≡ shown_slot fields graph freed page slot }
 {}
 
@@ -67,6 +67,6 @@ pub fn a_commit_leaves_other_pages()
 
 /// A commit leaves the image of each page that another open transaction wrote, as that one sees it.
 pub fn a_commit_leaves_other_views()
-    ensures { (w : World) (t u : Transaction) (page : ℕ) → IsLawfulTransaction w.graph w.freed (starts w) t → IsApart t u → has_page u.pages_written page ≡ true
+    ensures { (w : World) (t u : Transaction) (page : ℕ) → IsLawfulTransaction w.graph w.freed t → IsApart t u → has_page u.pages_written page ≡ true
         → shown_in w (view (record w { graph = view w t }) u) page ≡ shown_in w (view w u) page }
 {}

@@ -21,15 +21,16 @@ pub use copies::{
     each_event_keeps_the_opening,
 };
 pub use examples::{
-    a_copy_without_its_before_image_is_unsound, a_cut_without_an_after_image_is_unsound,
-    a_dirty_copy_marks_what_was_committed, a_moved_pointer_marks_its_target,
+    a_collection_runs_through, a_copy_without_its_before_image_is_unsound,
+    a_cut_without_an_after_image_is_unsound, a_dirty_copy_marks_what_was_committed,
+    a_moved_pointer_marks_its_target,
 };
 pub use frames::{
     a_commit_leaves_other_pages, a_commit_leaves_other_views, a_new_object_leaves_other_slots,
     a_new_object_takes_its_slot, a_sweep_frees_its_slots, a_sweep_leaves_other_slots,
     a_write_changes_one_slot, a_write_leaves_other_pages, views_are_in_order,
 };
-pub use rules::{is_doomed, is_kept_beside};
+pub use rules::{is_doomed, is_kept_beside, is_timely};
 pub use standing::{
     a_cut_that_runs_through_ends, a_fresh_store_stands, each_event_leaves_what_stands,
     histories_leave_what_stands,

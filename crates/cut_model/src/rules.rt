@@ -1,5 +1,5 @@
-//! Two rules of a cut as tests, for the crates that keep its images and its marks.
-ghost use Rattle.std.specs.Prelude.{◌≡◌, not, ◌&&◌, nat_lt};
+//! Rules of a cut as tests, for the crates that keep its images and its marks.
+ghost use Rattle.std.specs.Prelude.{◌≡◌, ◌↔◌, ◌≤◌, not, ◌&&◌, nat_lt, IsTrue};
 
 /// Whether the after-image of a page stays beside a copy that comes: only where its moment is later
 /// than the copy's. A moment is a number of commits.
@@ -15,4 +15,12 @@ pub fn is_doomed(in_use: bool, born: bool, marked: bool) -> bool
     ensures { result ≡ (in_use && (not born && not marked)) }
 {
     in_use && !born && !marked
+}
+
+/// Whether a copy is of the time of its cut: its moment isn't before that of the opening, and not
+/// later than now. A copy that is too old is never fit.
+pub fn is_timely(opening: u64, copy: u64, now: u64) -> bool
+    ensures { IsTrue result ↔ ((opening ≤ copy) × (copy ≤ now)) }
+{
+    opening <= copy && copy <= now
 }
