@@ -6,8 +6,10 @@ mod crash;
 mod disk;
 mod failed;
 mod file;
+mod gate;
 mod memory;
 mod note;
+mod past;
 mod sink;
 mod source;
 #[cfg(test)]
@@ -16,6 +18,7 @@ mod tests;
 pub use disk::Disk;
 pub use failed::Failed;
 pub use file::FileDisk;
+pub use gate::{Gate, MeetGate, OpenGate};
 pub use memory::MemDisk;
 pub use sink::{MemSink, Sink, StdSink};
 pub use source::{MemSource, Source, StdSource};

@@ -2,7 +2,8 @@
 ghost use Rattle.std.specs.Prelude.{◌≡◌};
 
 use crate::{
-    Disk, Failed, FileDisk, MemDisk, MemSink, MemSource, Sink, Source, StdSink, StdSource,
+    Disk, Failed, FileDisk, Gate, MeetGate, MemDisk, MemSink, MemSource, OpenGate, Sink, Source,
+    StdSink, StdSource,
 };
 use std::fs::{File, OpenFile, OpenOptions};
 use std::process::Abort;
@@ -144,4 +145,25 @@ fn a_disk_over_a_file_holds_what_was_written(rt: HostRuntime) -> Result<(), Fail
     assert_eq!(rt; (again.len(), again.faults()), (8, 1));
     fs::remove_file(&rt, name)?;
     Ok(())
+}
+
+// Two callers at a gate for so many, which looks so often.
+fn two_pass(count: u32, limit: u64) -> bool {
+    let gate = MeetGate::new(count, limit);
+    gate.pass(1, 1);
+    gate.pass(2, 1);
+    gate.met()
+}
+
+#[test]
+fn callers_meet_at_a_gate_or_give_up(rt: HostRuntime) {
+    assert!(rt; two_pass(1, 10));
+    // The first gives up before the second comes.
+    assert!(rt; !two_pass(2, 10));
+    assert!(rt; !two_pass(3, 10));
+    // Only the turn 1 is kept.
+    let gate = MeetGate::new(1, 10);
+    gate.pass(1, 2);
+    assert!(rt; !gate.met());
+    OpenGate.pass(1, 1);
 }
