@@ -9,7 +9,9 @@ use Rattle.std.proofs.lemmas.Bool.{lt-ltb, le-leb, ne_eqb, and_from, or_right}
 use Rattle.object_graph.specs.NameParts.{NameParts, IsName}
 use Rattle.object_graph.specs.SlotParts.{SlotParts}
 use Rattle.object_graph.specs.Slots.{below}
-use Rattle.page_image.specs.Sizes.{page_limit}
+use Rattle.object_graph.specs.declared.limits.TheConstants.{MOST_PAGES, MOST_SLOTS}
+use Rattle.object_graph.specs.declared.names.TheConstants.{OBJECT_FIELDS}
+use Rattle.object_graph.specs.declared.sizes.TheConstants.{SLOTS_PER_PAGE}
 use Rattle.page_image.specs.Slots.{IsWhole, IsReference, fresh_slot}
 use Rattle.page_image.specs.Pages.{PageParts, IsPage}
 use Rattle.page_image.specs.Spelling.{reference_number, slot_bytes, header_bytes, page_bytes}
@@ -17,13 +19,13 @@ use Rattle.page_image.specs.Fields.{first_wrong, header_fields, slot_fields, slo
 use Rattle.page_image.proofs.Tables.{one_more_right, slot_right-moved, page_at-right}
 
 -- the header of a page with this number is right, and has this number
-pub header_again : (number : ℕ) (rest : List ℕ) → number < page_limit → first_wrong (header_fields (header_bytes number ++ rest)) ≡ None
+pub header_again : (number : ℕ) (rest : List ℕ) → number < MOST_PAGES → first_wrong (header_fields (header_bytes number ++ rest)) ≡ None
 header_again number rest small =
     let is : number_at w32 (header_bytes number ++ rest) 4 ≡ number = from_be_bytes-to_be_bytes_4 number (omega (arith, small)) in
-    let right : nat_lt (number_at w32 (header_bytes number ++ rest) 4) page_limit ≡ true = rw is (lt-ltb number page_limit small) in
+    let right : nat_lt (number_at w32 (header_bytes number ++ rest) 4) MOST_PAGES ≡ true = rw is (lt-ltb number MOST_PAGES small) in
     rw right refl
 
-pub number_again : (number : ℕ) (rest : List ℕ) → number < page_limit → number_at w32 (header_bytes number ++ rest) 4 ≡ number
+pub number_again : (number : ℕ) (rest : List ℕ) → number < MOST_PAGES → number_at w32 (header_bytes number ++ rest) 4 ≡ number
 number_again number rest small = from_be_bytes-to_be_bytes_4 number (omega (arith, small))
 
 -- the number of a name is read as that name
@@ -41,8 +43,8 @@ pub name_again-valid : (n : NameParts) → IsName n → is_name_number (n.page *
 name_again-valid n is =
     let same = name_again n is in
     and_from _ _
-    (ap (λ m. nat_lt m.page 4096) same ∙ lt-ltb n.page 4096 is.page)
-    (and_from _ _ (ap (λ m. nat_lt m.slot 40) same ∙ lt-ltb n.slot 40 is.slot) (ap (λ m. nat_le 1 m.generation) same ∙ le-leb 1 n.generation is.first))
+    (ap (λ m. nat_lt m.page MOST_PAGES) same ∙ lt-ltb n.page MOST_PAGES is.page)
+    (and_from _ _ (ap (λ m. nat_lt m.slot MOST_SLOTS) same ∙ lt-ltb n.slot MOST_SLOTS is.slot) (ap (λ m. nat_le 1 m.generation) same ∙ le-leb 1 n.generation is.first))
 
 pub name_some : (n : NameParts) → IsName n → (n.page * 4294967296 + n.slot * 65536 + n.generation == 0) ≡ false
 name_some n is = let first = is.first in ne_eqb _ 0 (λ e. omega (arith, e, first))
@@ -119,10 +121,10 @@ slot_again s is = by_state s.in_use s.generation s.number s.refs is
         subst (λ s. (first_wrong (slot_fields (slot_bytes s)) ≡ None) × (slot_of (slot_bytes s) ≡ s)) same (free_right generation, free_again generation w.generation)
 
 -- the bytes of a slot are 48, and so many slots are read one by one
-pub length-slot_bytes : (s : SlotParts) → length s.refs ≡ 4 → length (slot_bytes s) ≡ 48
+pub length-slot_bytes : (s : SlotParts) → length s.refs ≡ OBJECT_FIELDS → length (slot_bytes s) ≡ 48
 length-slot_bytes s count = by_count s.in_use s.generation s.number s.refs count
   where
-    by_count : (in_use : Bool) (generation number : ℕ) (refs : List (Option NameParts)) → length refs ≡ 4 → length (slot_bytes (record { in_use = in_use; generation = generation; number = number; refs = refs })) ≡ 48
+    by_count : (in_use : Bool) (generation number : ℕ) (refs : List (Option NameParts)) → length refs ≡ OBJECT_FIELDS → length (slot_bytes (record { in_use = in_use; generation = generation; number = number; refs = refs })) ≡ 48
     by_count in_use generation number [] n = absurd (cc n)
     by_count in_use generation number (a ∷ []) n = absurd (omega (arith, n))
     by_count in_use generation number (a ∷ b ∷ []) n = absurd (omega (arith, n))
@@ -153,7 +155,7 @@ spelled_slots number slots = header_bytes number ++ flat_map slot_bytes slots
 pub slot_piece_again : (number : ℕ) (slots : List SlotParts) (n : ℕ) (d : SlotParts) → AllByRecursion IsWhole slots → n < length slots → slot_piece (spelled_slots number slots) n ≡ slot_bytes (get_or slots n d)
 slot_piece_again number slots n d whole among = piece_again slots (header_bytes number) n (slot_start n) d whole refl among
 
-whole_at : (slots : List SlotParts) (n : ℕ) (d : SlotParts) → AllByRecursion IsWhole slots → n < length slots → IsWhole (get_or slots n d)
+pub whole_at : (slots : List SlotParts) (n : ℕ) (d : SlotParts) → AllByRecursion IsWhole slots → n < length slots → IsWhole (get_or slots n d)
 whole_at [] n d whole among = absurd (omega (arith, among))
 whole_at (s ∷ slots) zero d whole among = whole.0
 whole_at (s ∷ slots) (suc n) d whole among = whole_at slots n d whole.1 (omega (arith, among))
@@ -182,9 +184,9 @@ slots_again number slots d (suc n) whole few =
 pub page_again : (p : PageParts) → IsPage p → page_at (page_bytes p) ≡ Ok p
 page_again p is =
     let bytes = page_bytes p in
-    let all : 20 ≤ length p.slots = let n = is.count in omega (arith, n) in
-    page_at-right bytes (header_again p.number (flat_map slot_bytes p.slots) is.number) (slots_right p.number p.slots fresh_slot 20 is.slots all)
+    let all : SLOTS_PER_PAGE ≤ length p.slots = let n = is.count in omega (arith, n) in
+    page_at-right bytes (header_again p.number (flat_map slot_bytes p.slots) is.number) (slots_right p.number p.slots fresh_slot SLOTS_PER_PAGE is.slots all)
     ∙ (λ i. Ok (record {
       number = number_again p.number (flat_map slot_bytes p.slots) is.number i;
-      slots = (slots_again p.number p.slots fresh_slot 20 is.slots all ∙ take_all 20 p.slots (let n = is.count in omega (arith, n))) i;
+      slots = (slots_again p.number p.slots fresh_slot SLOTS_PER_PAGE is.slots all ∙ take_all SLOTS_PER_PAGE p.slots (let n = is.count in omega (arith, n))) i;
     }))

@@ -1,10 +1,9 @@
 -- What the bytes of a slot say where its fields are right.
-use Rattle.std.proofs.Common.{◌≡◌, ℕ, ◌/◌, ◌%◌, ◌<◌, Bool, true, false, not, ◌||◌, ◌==◌, nat_lt, nat_le, List, [], ◌∷◌, Some, None, refl, arith, length, inl, inr, if◌then◌else◌}
+use Rattle.std.proofs.Common.{◌≡◌, ℕ, ◌/◌, ◌%◌, ◌<◌, Bool, true, false, not, ◌||◌, ◌==◌, nat_lt, nat_le, List, [], ◌∷◌, Some, None, refl, arith, inl, inr, if◌then◌else◌}
 use Rattle.std.proofs.lemmas.Bool.{and_parts, or_cases, eqb-true, leb-true, ltb-true, or_left, both_ways}
-use Rattle.std.specs.Prelude.{slice_get}
 use Rattle.std.specs.Int.{w16, w32, w64}
 use Rattle.object_graph.specs.NameParts.{IsName}
-use Rattle.page_image.specs.Sizes.{page_limit}
+use Rattle.object_graph.specs.declared.limits.TheConstants.{MOST_PAGES, MOST_SLOTS}
 use Rattle.page_image.specs.Slots.{IsSlot, IsReference}
 use Rattle.page_image.specs.Fields.{Field, first_wrong, slot_fields, header_fields, is_used, is_reference, is_name_number, reference_of, name_of, number_at, byte_at}
 
@@ -28,11 +27,11 @@ reference-free n is = elim (or_cases (n == 0) false is) [ inl none ↦ rw none r
 
 pub name_of-valid : (n : ℕ) → is_name_number n ≡ true → IsName (name_of n)
 name_of-valid n is =
-    let page = and_parts (nat_lt (n / 4294967296) 4096) _ is in
-    let rest = and_parts (nat_lt ((n / 65536) % 65536) 40) _ page.1 in
+    let page = and_parts (nat_lt (n / 4294967296) MOST_PAGES) _ is in
+    let rest = and_parts (nat_lt ((n / 65536) % 65536) MOST_SLOTS) _ page.1 in
     record {
-      page = ltb-true (n / 4294967296) 4096 page.0;
-      slot = ltb-true ((n / 65536) % 65536) 40 rest.0;
+      page = ltb-true (n / 4294967296) MOST_PAGES page.0;
+      slot = ltb-true ((n / 65536) % 65536) MOST_SLOTS rest.0;
       first = leb-true 1 (n % 65536) rest.1;
       last = omega arith;
     }
@@ -100,14 +99,5 @@ slot_fits false generation number a b c d any none ra rb rc rd = record {
 }
 
 -- the page number of a right header
-pub header_number : (bytes : List ℕ) → first_wrong (header_fields bytes) ≡ None → number_at w32 bytes 4 < page_limit
-header_number bytes is = ltb-true (number_at w32 bytes 4) page_limit (all_right (header_fields bytes) is).1.0
-
--- four references, one by one
-pub four : {A : Type 0} (xs : List A) (a b c d : A) → length xs ≡ 4 → slice_get xs 0 ≡ Some a → slice_get xs 1 ≡ Some b → slice_get xs 2 ≡ Some c → slice_get xs 3 ≡ Some d → a ∷ b ∷ c ∷ d ∷ [] ≡ xs
-four [] a b c d long pa pb pc pd = absurd (cc pa)
-four (w ∷ []) a b c d long pa pb pc pd = absurd (cc pb)
-four (w ∷ x ∷ []) a b c d long pa pb pc pd = absurd (cc pc)
-four (w ∷ x ∷ y ∷ []) a b c d long pa pb pc pd = absurd (cc pd)
-four (w ∷ x ∷ y ∷ z ∷ []) a b c d long pa pb pc pd = cc (pa, pb, pc, pd)
-four (w ∷ x ∷ y ∷ z ∷ v ∷ more) a b c d long pa pb pc pd = absurd (omega (arith, long))
+pub header_number : (bytes : List ℕ) → first_wrong (header_fields bytes) ≡ None → number_at w32 bytes 4 < MOST_PAGES
+header_number bytes is = ltb-true (number_at w32 bytes 4) MOST_PAGES (all_right (header_fields bytes) is).1.0

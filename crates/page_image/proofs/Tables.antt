@@ -1,5 +1,5 @@
 -- The first wrong field of tables of fields.
-use Rattle.std.proofs.Common.{◌≡◌, ℕ, zero, suc, ◌+◌, ◌<◌, ◌≤◌, ◌==◌, inl, inr, true, false, List, [], ◌∷◌, ◌++◌, Option, Some, None, Ok, Err, map, refl, sym, ◌∙◌, ap, subst, arith}
+use Rattle.std.proofs.Common.{◌≡◌, ℕ, zero, suc, ◌+◌, ◌<◌, ◌≤◌, ◌==◌, inl, inr, true, false, List, [], ◌∷◌, ◌++◌, Option, Some, None, Ok, map, refl, sym, ◌∙◌, ap, subst, arith}
 use Rattle.std.specs.List.{flat_map}
 use Rattle.std.specs.Prelude.{option_map}
 use Rattle.std.proofs.lemmas.Grind.{flat_map-append}
@@ -9,7 +9,7 @@ use Rattle.std.proofs.lemmas.List.Concat.{flat_map_single}
 use Rattle.object_graph.specs.Slots.{below}
 use Rattle.page_image.specs.Fields.{Field, first_wrong, slot_fields, fields_of_slot, slot_piece, slot_start, byte_at, zeros, header_fields, page_fields, page_of, page_or, page_at}
 use Rattle.page_image.specs.Pages.{PageParts}
-use Rattle.page_image.specs.Sizes.{slots_per_page}
+use Rattle.object_graph.specs.declared.sizes.TheConstants.{SLOTS_PER_PAGE}
 
 -- where the first table is right, the second decides
 pub first_wrong-after : (xs ys : List Field) → first_wrong xs ≡ None → first_wrong (xs ++ ys) ≡ first_wrong ys
@@ -108,20 +108,14 @@ no_zero bytes from count n among before wrong =
     ap first_wrong (zeros-flat bytes from count)
     ∙ wrong_among (zero_field bytes from) count (suc n) (from + n) (omega (arith, among)) (one_wrong (zero_field bytes from) n (from + n) (sym (ap first_wrong (zeros-flat bytes from n)) ∙ before) now)
 
--- a page whose header is wrong, whose slots are, and a page that is right
-pub page_at-header : (bytes : List ℕ) (at : ℕ) → first_wrong (header_fields bytes) ≡ Some at → page_at bytes ≡ Err at
-page_at-header bytes at is = ap (page_or (page_of bytes)) (first_wrong-before (header_fields bytes) (flat_map (fields_of_slot bytes) (below slots_per_page)) at is)
-
-pub page_at-slots : (bytes : List ℕ) (at : ℕ) → first_wrong (header_fields bytes) ≡ None → first_wrong (flat_map (fields_of_slot bytes) (below slots_per_page)) ≡ Some at → page_at bytes ≡ Err at
-page_at-slots bytes at header is = ap (page_or (page_of bytes)) (first_wrong-after (header_fields bytes) (flat_map (fields_of_slot bytes) (below slots_per_page)) header ∙ is)
-
-pub page_at-right : (bytes : List ℕ) → first_wrong (header_fields bytes) ≡ None → first_wrong (flat_map (fields_of_slot bytes) (below slots_per_page)) ≡ None → page_at bytes ≡ Ok (page_of bytes)
-page_at-right bytes header is = ap (page_or (page_of bytes)) (first_wrong-after (header_fields bytes) (flat_map (fields_of_slot bytes) (below slots_per_page)) header ∙ is)
+-- a page whose header and slots are right
+pub page_at-right : (bytes : List ℕ) → first_wrong (header_fields bytes) ≡ None → first_wrong (flat_map (fields_of_slot bytes) (below SLOTS_PER_PAGE)) ≡ None → page_at bytes ≡ Ok (page_of bytes)
+page_at-right bytes header is = ap (page_or (page_of bytes)) (first_wrong-after (header_fields bytes) (flat_map (fields_of_slot bytes) (below SLOTS_PER_PAGE)) header ∙ is)
 
 -- what is right of a page that is read
 pub record IsRead (bytes : List ℕ) (said : PageParts) : Type 0 where
   pub header : first_wrong (header_fields bytes) ≡ None
-  pub slots : first_wrong (flat_map (fields_of_slot bytes) (below slots_per_page)) ≡ None
+  pub slots : first_wrong (flat_map (fields_of_slot bytes) (below SLOTS_PER_PAGE)) ≡ None
   pub page : page_of bytes ≡ said
 
 pub page_at-read : (bytes : List ℕ) (page : PageParts) → page_at bytes ≡ Ok page → IsRead bytes page
@@ -129,8 +123,8 @@ page_at-read bytes page is = by_first (first_wrong (page_fields bytes)) refl is
   where
     by_first : (first : Option ℕ) → first_wrong (page_fields bytes) ≡ first → page_or (page_of bytes) first ≡ Ok page → IsRead bytes page
     by_first None none e = record {
-      header = first_wrong-front (header_fields bytes) (flat_map (fields_of_slot bytes) (below slots_per_page)) none;
-      slots = first_wrong-back (header_fields bytes) (flat_map (fields_of_slot bytes) (below slots_per_page)) none;
+      header = first_wrong-front (header_fields bytes) (flat_map (fields_of_slot bytes) (below SLOTS_PER_PAGE)) none;
+      slots = first_wrong-back (header_fields bytes) (flat_map (fields_of_slot bytes) (below SLOTS_PER_PAGE)) none;
       page = cc e;
     }
     by_first (Some at) none e = absurd (cc e)

@@ -9,19 +9,22 @@ use Rattle.std.proofs.lemmas.Bool.{eqb-true, leb-true, cases_lt}
 use Rattle.std.proofs.lemmas.List.{take_more, take_all, append-nil, map-append, length-take-le, length-drop, get_or-take, get_or-drop, get_or_past, replicate-append-replicate}
 use Rattle.object_graph.specs.Slots.{below}
 use Rattle.object_graph.specs.SlotParts.{SlotParts}
+use Rattle.object_graph.specs.declared.limits.TheConstants.{MOST_PAGES}
+use Rattle.object_graph.specs.declared.names.TheConstants.{OBJECT_FIELDS}
+use Rattle.object_graph.specs.declared.sizes.TheConstants.{SLOTS_PER_PAGE}
 use Rattle.page_image.specs.Spelling.{reference_number, state_byte, slot_bytes, header_bytes, page_bytes, AreBytes}
 use Rattle.page_image.specs.Fields.{Field, first_wrong, header_fields, slot_fields, slot_of, slot_piece, slot_start, number_at, byte_at, reference_of, zeros, page_of, fields_of_slot}
 use Rattle.page_image.proofs.Tables.{zeros-flat, zero_field, right_at, slot_right-back, first_wrong-back}
 use Rattle.page_image.proofs.Right.{all_right, slot_right}
 
 -- so many bytes from a place on
-abbrev part : List ℕ → ℕ → ℕ → List ℕ
+abbrev pub part : List ℕ → ℕ → ℕ → List ℕ
 part bytes at n = take n (drop at bytes)
 
-length-part : (bytes : List ℕ) (at n : ℕ) → at + n ≤ length bytes → length (part bytes at n) ≡ n
+pub length-part : (bytes : List ℕ) (at n : ℕ) → at + n ≤ length bytes → length (part bytes at n) ≡ n
 length-part bytes at n within = length-take-le n (drop at bytes) (let long = length-drop at bytes in omega (arith, long, within))
 
-part_bytes : (bytes : List ℕ) (at n : ℕ) → at + n ≤ length bytes → AreBytes bytes → AreBytes (part bytes at n)
+pub part_bytes : (bytes : List ℕ) (at n : ℕ) → at + n ≤ length bytes → AreBytes bytes → AreBytes (part bytes at n)
 part_bytes bytes at n within are i =
     elim (cases_lt i n) [
       | inl among ↦ subst (λ (b : ℕ). b < 256) (sym (get_or-take n (drop at bytes) i 0 among ∙ get_or-drop at bytes i 0)) (are (at + i))
@@ -120,7 +123,7 @@ zeros_right : (bytes : List ℕ) → first_wrong (header_fields bytes) ≡ None 
 zeros_right bytes is = first_wrong-back (front bytes) (zeros bytes 10 54) is
   where
     front : List ℕ → List Field
-    front bytes = (0, number_at w32 bytes 0 == 1129334577) ∷ (4, nat_lt (number_at w32 bytes 4) 4096) ∷ (8, byte_at bytes 8 == 4) ∷ (9, byte_at bytes 9 == 20) ∷ []
+    front bytes = (0, number_at w32 bytes 0 == 1129334577) ∷ (4, nat_lt (number_at w32 bytes 4) MOST_PAGES) ∷ (8, byte_at bytes 8 == OBJECT_FIELDS) ∷ (9, byte_at bytes 9 == SLOTS_PER_PAGE) ∷ []
 
 -- the bytes of a right header are spelled by the number that they say
 pub header_takes : (bytes : List ℕ) → length bytes ≡ 1024 → AreBytes bytes → first_wrong (header_fields bytes) ≡ None → part bytes 0 64 ≡ header_bytes (number_at w32 bytes 4)
@@ -134,8 +137,8 @@ header_takes bytes long are is =
     (more bytes 0 9 1 _ _
     (more bytes 0 8 1 _ _
     (more bytes 0 4 4 _ _ mark (sym (number_4 bytes 4 (omega (arith, long)) are)))
-    (one 8 4 (omega arith) right.1.1.0))
-    (one 9 20 (omega arith) right.1.1.1.0))
+    (one 8 OBJECT_FIELDS (omega arith) right.1.1.0))
+    (one 9 SLOTS_PER_PAGE (omega arith) right.1.1.1.0))
     zeros_are
 
 -- the bytes of right slots are spelled by what they say
@@ -153,8 +156,8 @@ slots_take bytes (suc n) within are right =
     ∙ (sym (joined bytes 64 (48 * n) 48) ∙ ap (part bytes 64) next)))
 
 -- a page that is read is spelled so
-pub page_takes : (bytes : List ℕ) → length bytes ≡ 1024 → AreBytes bytes → first_wrong (header_fields bytes) ≡ None → first_wrong (flat_map (fields_of_slot bytes) (below 20)) ≡ None → page_bytes (page_of bytes) ≡ bytes
+pub page_takes : (bytes : List ℕ) → length bytes ≡ 1024 → AreBytes bytes → first_wrong (header_fields bytes) ≡ None → first_wrong (flat_map (fields_of_slot bytes) (below SLOTS_PER_PAGE)) ≡ None → page_bytes (page_of bytes) ≡ bytes
 page_takes bytes long are header slots =
-    let each : (k : ℕ) → k < 20 → first_wrong (slot_fields (slot_piece bytes k)) ≡ None = λ k among. slot_right-back bytes k (right_at (fields_of_slot bytes) 20 k among slots) in
-    (λ i. sym (header_takes bytes long are header) i ++ slots_take bytes 20 (omega (arith, long)) are each i)
+    let each : (k : ℕ) → k < SLOTS_PER_PAGE → first_wrong (slot_fields (slot_piece bytes k)) ≡ None = λ k among. slot_right-back bytes k (right_at (fields_of_slot bytes) SLOTS_PER_PAGE k among slots) in
+    (λ i. sym (header_takes bytes long are header) i ++ slots_take bytes SLOTS_PER_PAGE (omega (arith, long)) are each i)
     ∙ (sym (joined bytes 0 64 960) ∙ take_all 1024 bytes (omega (arith, long)))

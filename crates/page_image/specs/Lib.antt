@@ -1,5 +1,5 @@
-pub mod Sizes
 pub mod Slots
 pub mod Spelling
 pub mod Pages
 pub mod Fields
+pub mod Images

@@ -1,40 +1,48 @@
 //! A page as a value.
-ghost use Rattle.std.specs.Prelude.{◌≡◌, ◌<◌, ℕ, true, false, length, IfOk, IfSome, IfNone, OnErr, IfErr, Ok, Err, IsTrue, slice_index_or, ◌&&◌, nat_lt};
+ghost use Rattle.std.specs.Prelude.{◌≡◌, ◌<◌, ℕ, true, false, length, IfOk, IfSome, IfNone, OnErr, IfErr, Ok, Err, IsTrue, slice_index_or, ◌&&◌, ◌==◌, nat_lt};
 ghost use Rattle.object_graph.specs.Slots.{has_slot};
 ghost use Rattle.std.specs.List.{AllByRecursion};
 ghost use Rattle.page_image.specs.Slots.{IsWhole, fresh_slot, taken, freed, with_number, with_ref, has_room};
 ghost use Rattle.page_image.specs.Fields.{page_at};
+ghost use Rattle.page_image.specs.Images.{page_said};
 ghost use Rattle.page_image.specs.Spelling.{page_bytes};
-ghost use Rattle.page_image.specs.Pages.{PageParts, IsPage, empty_page, slot_at, with_slot, object_at, object_of, slot_freed, IsFull, IsFirstWithRoom, IsNextName};
+ghost use Rattle.page_image.specs.Pages.{PageParts, IsPage, empty_page, slot_at, with_slot, object_at, object_of, has_name, slot_freed, IsFull, IsFirstWithRoom, IsNextName};
 
-use crate::decode::{BadPage, number_of, read_slots, wrong_in_header, wrong_in_slots};
-use crate::encode::{put_header, put_slots};
-use crate::slot::Slot;
-use object_graph::{Name, Object, SlotSet};
+use crate::layout::{piece, slots};
+use crate::numbers::u32_at;
+use crate::read::{generation, has_room, in_use, object_in};
+use crate::write::{put_bare, put_header, put_number, put_reference};
+use crate::wrong::first_wrong_field;
+use object_graph::{MOST_PAGES, Name, Object, SLOTS_PER_PAGE, SlotSet};
 use std::marker::Model;
 
-/// The slots of a page.
-const SLOTS: usize = 20;
-
-/// The image of a page. Contracts see its number and its slots. It is a plain copy without memory
-/// (FORMATS.md, "Pages").
+/// The image of a page, kept as its spelling. Contracts see its number and its slots. It is a plain
+/// copy without memory (FORMATS.md, "Pages").
 #[derive(Clone, Copy, Debug, PartialEq, Eq)]
 pub struct Page {
-    number: u32,
-    slots: [Slot; 20],
+    bytes: [u8; 1024],
 }
 
 impl Model for Page {
-    ghost use Rattle.std.specs.Prelude.{◌<◌};
     ghost use Rattle.page_image.specs.Pages.{PageParts};
+    ghost use Rattle.page_image.specs.Spelling.{page_bytes};
+    ghost use Rattle.page_image.specs.Images.{page_said, IsImage};
 
     ghost Value = { PageParts };
 
-    ghost view = { λ p. record { number = p.number; slots = p.slots } };
+    ghost view = { λ p. page_said p.bytes };
 
-    ghost invariant = { λ p. p.number < 4096 };
+    ghost invariant = { λ p. IsImage p.bytes };
 
-    ghost inverse = { λ v. record { number = v.number; slots = v.slots } };
+    ghost inverse = { λ v. record { bytes = page_bytes v } };
+
+    ghost inverse_ok = { λ p is i. record { bytes = is.spelled i } };
+}
+
+/// The bytes are no page's: where the first wrong field begins, counted from the page's beginning.
+#[derive(Clone, Copy, Debug, PartialEq, Eq)]
+pub struct BadPage {
+    pub at: u32,
 }
 
 /// Each slot of the page is in use or spent.
@@ -44,14 +52,12 @@ pub struct PageFull;
 impl Page {
     /// A page without objects.
     pub fn empty(number: u32) -> Page
-        requires { number < 4096 }
+        requires { number < MOST_PAGES }
         ensures { result ≡ empty_page number }
     {
-        let fresh = Slot::fresh();
-        Page {
-            number,
-            slots: [fresh; SLOTS],
-        }
+        let mut bytes = [0; 1024];
+        put_header(&mut bytes, number);
+        Page { bytes }
     }
 
     /// The page that the bytes spell. Where no page is spelled so, the answer is the place of the
@@ -64,18 +70,10 @@ impl Page {
         ensures spelled { IfOk result (λ page. page_bytes page ≡ bytes.now) }
         ensures only { (page : PageParts) → IsPage page → page_bytes page ≡ bytes.now → result ≡ Ok page }
     {
-        match wrong_in_header(bytes) {
-            Some(at) => return Err(BadPage { at }),
-            None => {}
+        match first_wrong_field(bytes) {
+            Some(at) => Err(BadPage { at }),
+            None => Ok(Page { bytes: *bytes }),
         }
-        match wrong_in_slots(bytes) {
-            Some(at) => return Err(BadPage { at }),
-            None => {}
-        }
-        Ok(Page {
-            number: number_of(bytes),
-            slots: read_slots(bytes),
-        })
     }
 
     /// Writes the page's one spelling.
@@ -83,15 +81,23 @@ impl Page {
         ensures spelled { out.new ≡ page_bytes self.now }
         ensures again { page_at out.new ≡ Ok self.now }
     {
-        put_header(out, self.number);
-        put_slots(out, &self.slots);
+        *out = self.bytes;
+    }
+
+    /// The page's one spelling, as it is kept.
+    pub fn bytes(&self) -> &[u8; 1024]
+        ensures spelled { result.now ≡ page_bytes self.now }
+        ensures again { page_at result.now ≡ Ok self.now }
+        ensures long { length result.now ≡ 1024 }
+    {
+        &self.bytes
     }
 
     pub fn number(&self) -> u32
         ensures value { result ≡ self.now.number }
-        ensures bound { result < 4096 }
+        ensures bound { result < MOST_PAGES }
     {
-        self.number
+        u32_at(&self.bytes, 4)
     }
 
     /// The stored generation of a slot: that of the last object committed there, or 0.
@@ -99,32 +105,38 @@ impl Page {
         requires { slot < length self.now.slots }
         ensures { result ≡ (slot_at self.now slot).generation }
     {
-        self.slots[usize::from(slot)].generation()
+        generation(piece(&self.bytes, slot))
     }
 
     /// The object in a slot, if there is one.
     pub fn object(&self, slot: u16) -> Option<Object>
         ensures { result ≡ object_at self.now slot }
     {
-        let slots = &self.slots[..];
-        if usize::from(slot) >= slots.len() {
+        if slot >= slots(&self.bytes) {
             return None;
         }
-        object_in(self.number, slot, &slots[usize::from(slot)])
+        object_in(self.number(), slot, piece(&self.bytes, slot))
+    }
+
+    /// Whether an object of this name is in use on the page.
+    pub fn has(&self, name: Name) -> bool
+        ensures { result ≡ has_name self.now name }
+    {
+        name.page() == self.number() && holds_at(&self.bytes, name.slot(), name.generation())
     }
 
     /// What each page is, for those who rely on it: it does nothing else.
     pub fn is_page(&self)
         ensures { IsPage self.now }
     {
-        are_whole(&self.slots);
+        let _bytes = &self.bytes;
     }
 
     /// The slots that are in use.
     pub fn used(&self) -> SlotSet
         ensures { (slot : ℕ) → has_slot result slot ≡ (slot_at self.now slot).in_use }
     {
-        used_among(&self.slots)
+        used_among(&self.bytes)
     }
 
     /// Frees the objects in these slots. Their generations stay.
@@ -134,7 +146,11 @@ impl Page {
         ensures count { length self.new.slots ≡ length self.old.slots }
         ensures freed { (slot : ℕ) → slot_at self.new slot ≡ slot_freed slots slot (slot_at self.old slot) }
     {
-        free_among(&mut self.slots, slots);
+        for slot in 0..self.slots() {
+            if slots.has(slot) {
+                self.free_slot(slot);
+            }
+        }
     }
 
     /// Sets the number of the object in a slot.
@@ -143,8 +159,7 @@ impl Page {
         requires used { (slot_at self.old slot).in_use ≡ true }
         ensures { self.new ≡ with_slot self.old slot (with_number number) }
     {
-        let changed = &mut self.slots[usize::from(slot)];
-        changed.set_number(number);
+        put_number(&mut self.bytes, slot, number);
     }
 
     /// Sets a reference of the object in a slot.
@@ -154,8 +169,7 @@ impl Page {
         requires field { field < length (slot_at self.old slot).refs }
         ensures { self.new ≡ with_slot self.old slot (with_ref field target) }
     {
-        let changed = &mut self.slots[usize::from(slot)];
-        changed.set_ref(field as usize, &target);
+        put_reference(&mut self.bytes, slot, field as usize, &target);
     }
 
     /// Takes the least slot that is free and has a generation to spare, for a new object with number
@@ -166,85 +180,66 @@ impl Page {
         ensures full { OnErr result (IsFull self.old) }
         ensures unchanged { OnErr result (self.new ≡ self.old) }
     {
-        let Some(slot) = first_with_room(&self.slots) else {
+        let Some(slot) = first_with_room(&self.bytes) else {
             return Err(PageFull);
         };
-        let taken = self.slots[usize::from(slot)].taken();
-        self.slots[usize::from(slot)] = taken;
-        let generation = self.slots[usize::from(slot)].generation();
-        Ok(Name::at(self.number, slot, generation))
+        let next = generation(piece(&self.bytes, slot)) + 1;
+        let name = Name::at(self.number(), slot, next);
+        put_bare(&mut self.bytes, slot, true, next);
+        Ok(name)
+    }
+
+    /// How many slots the page has.
+    fn slots(&self) -> u16
+        ensures count { result ≡ length self.now.slots }
+        ensures bound { result ≡ SLOTS_PER_PAGE }
+    {
+        slots(&self.bytes)
+    }
+
+    /// Frees the object in a slot.
+    fn free_slot(&mut self, slot: u16)
+        requires within { slot < length self.old.slots }
+        ensures { self.new ≡ with_slot self.old slot freed }
+    {
+        let last = generation(piece(&self.bytes, slot));
+        put_bare(&mut self.bytes, slot, false, last);
     }
 }
 
 /// The least slot that a new object can take.
-fn first_with_room(slots: &[Slot]) -> Option<u16>
-    requires { length slots.now ≡ 20 }
-    ensures some { IfSome result (λ slot. (slot < 20) × (has_room (slice_index_or slots.now slot fresh_slot) ≡ true) × ((s : ℕ) → s < slot → has_room (slice_index_or slots.now s fresh_slot) ≡ false)) }
-    ensures none { IfNone result ((s : ℕ) → s < 20 → has_room (slice_index_or slots.now s fresh_slot) ≡ false) }
+fn first_with_room(bytes: &[u8; 1024]) -> Option<u16>
+    ensures some { IfSome result (λ slot. IsFirstWithRoom (page_said bytes.now) slot) }
+    ensures none { IfNone result (IsFull (page_said bytes.now)) }
 {
-    for slot in 0..SLOTS as u16 {
-        if slots[usize::from(slot)].has_room() {
+    for slot in 0..slots(bytes) {
+        if has_room(piece(bytes, slot)) {
             return Some(slot);
         }
     }
     None
 }
 
-/// The object in a slot of a page.
-fn object_in(page: u32, at: u16, slot: &Slot) -> Option<Object>
-    requires page { page < 4096 }
-    requires at { at < 40 }
-    ensures { result ≡ object_of page at slot.now }
+/// Whether an object of this generation is in use in a slot.
+fn holds_at(bytes: &[u8; 1024], at: u16, of: u16) -> bool
+    ensures { let slot = slot_at (page_said bytes.now) at in result ≡ (slot.in_use && slot.generation == of) }
 {
-    if !slot.in_use() {
-        return None;
+    if at >= slots(bytes) {
+        return false;
     }
-    let name = Name::at(page, at, slot.generation());
-    let refs = [
-        slot.reference(0),
-        slot.reference(1),
-        slot.reference(2),
-        slot.reference(3),
-    ];
-    Some(Object {
-        name,
-        number: slot.number(),
-        refs,
-    })
-}
-
-/// Each slot is what a slot is.
-fn are_whole(slots: &[Slot])
-    ensures { AllByRecursion IsWhole slots.now }
-{
-    for slot in 0..slots.len() {
-        slots[slot].is_whole();
-    }
+    let slot = piece(bytes, at);
+    in_use(slot) && generation(slot) == of
 }
 
 /// The slots that are in use.
-fn used_among(slots: &[Slot]) -> SlotSet
-    requires { length slots.now ≡ 20 }
-    ensures { (slot : ℕ) → has_slot result slot ≡ (slice_index_or slots.now slot fresh_slot).in_use }
+fn used_among(bytes: &[u8; 1024]) -> SlotSet
+    ensures { (slot : ℕ) → has_slot result slot ≡ (slot_at (page_said bytes.now) slot).in_use }
 {
     let mut used = SlotSet::empty();
-    for slot in 0..SLOTS as u16 {
-        if slots[usize::from(slot)].in_use() {
+    for slot in 0..slots(bytes) {
+        if in_use(piece(bytes, slot)) {
             used = used.with(slot);
         }
     }
     used
-}
-
-/// Frees the slots of a set.
-fn free_among(slots: &mut [Slot], set: SlotSet)
-    requires { length slots.old ≡ 20 }
-    ensures count { length slots.new ≡ length slots.old }
-    ensures freed { (slot : ℕ) → slot < 20 → slice_index_or slots.new slot fresh_slot ≡ slot_freed set slot (slice_index_or slots.old slot fresh_slot) }
-{
-    for slot in 0..SLOTS as u16 {
-        if set.has(slot) {
-            slots[usize::from(slot)] = slots[usize::from(slot)].freed();
-        }
-    }
 }

@@ -6,7 +6,8 @@ use Rattle.std.specs.Cmp.{nat_eq_equiv}
 use Rattle.std.proofs.lemmas.Bool.{eq-eqb}
 use Rattle.std.proofs.lemmas.List.Elements.{All-nil, All-filter, All-push, All-from_recursion, recursion_from_All}
 use Rattle.std.proofs.lemmas.Map.Keys.{IsDistinct-head, IsDistinct-tail, IsDistinct-cons, IsDistinct-push}
-use Rattle.page_locks.specs.Holding.{most_admitted, numbers, is_admitted, is_in_way, IsNobody, HaveSameLocks, AddsShared, AddsExclusive, HasRoom, HaveRoom, AreDistinct, IsTable}
+use Rattle.object_graph.specs.declared.limits.TheConstants.{MOST_OPEN}
+use Rattle.page_locks.specs.Holding.{numbers, is_admitted, is_in_way, IsNobody, HaveSameLocks, AddsShared, AddsExclusive, HasRoom, HaveRoom, AreDistinct, IsTable}
 use Rattle.page_locks.specs.declared.locks.Held.{Held}
 use Rattle.page_locks.proofs.Any.{numbers-append, numbers-filter, releases}
 use Rattle.page_locks.proofs.Apart.{or_parts, apart_same, apart_shared, apart_exclusive, apart_released}
@@ -69,7 +70,7 @@ nobody : IsDistinct nat_eq []
 unfolding IsDistinct
 nobody = tt
 
-pub table_starts : (pages : ℕ) (idle : List Held) → length idle ≡ most_admitted → HaveRoom pages idle → IsTable pages [] idle
+pub table_starts : (pages : ℕ) (idle : List Held) → length idle ≡ MOST_OPEN → HaveRoom pages idle → IsTable pages [] idle
 table_starts pages idle count room = record {
   whole = omega (arith, count);
   held_room = All-nil (HasRoom pages);

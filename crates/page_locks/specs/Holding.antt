@@ -1,12 +1,9 @@
 -- Who holds which locks.
 use Rattle.std.specs.Prelude.{◌≡◌, ◌≢◌, ℕ, ◌+◌, ◌*◌, ◌≤◌, Bool, true, false, not, ◌&&◌, ◌||◌, ◌==◌, List, length, map, filter, nat_eq}
 use Rattle.std.specs.List.{list_any, All, IsDistinct}
+use Rattle.object_graph.specs.declared.limits.TheConstants.{MOST_OPEN}
 use Rattle.page_locks.specs.Sets.{in_set}
 use Rattle.page_locks.specs.declared.locks.Held.{Held}
-
--- how many transactions can be admitted
-abbrev pub most_admitted : ℕ
-most_admitted = 64
 
 -- the count of pages, and the locks of each transaction admitted, in the order of their admission
 pub record LockTable : Type 0 where
@@ -83,7 +80,7 @@ AreDistinct held = IsDistinct nat_eq (numbers held)
 
 -- a table of those admitted, with the sets that wait for others
 pub record IsTable (pages : ℕ) (held idle : List Held) : Type 0 where
-  pub whole : length held + length idle ≡ most_admitted
+  pub whole : length held + length idle ≡ MOST_OPEN
   pub held_room : HaveRoom pages held
   pub idle_room : HaveRoom pages idle
   pub distinct : AreDistinct held

@@ -1,17 +1,14 @@
 //! The table of locks.
 ghost use Rattle.std.specs.Prelude.{◌≡◌, ℕ, ◌<◌, ◌≤◌, ◌++◌, ◌∷◌, ◌||◌, [], true, false, IfOk, IfErr, OnOk, OnErr, length};
-ghost use Rattle.page_locks.specs.Holding.{most_admitted, numbers, shares, excludes, is_admitted, is_in_way, IsNobody, IsLeast, HaveSameLocks, AddsShared, AddsExclusive, Releases, KeepsApart};
+ghost use Rattle.page_locks.specs.Holding.{numbers, shares, excludes, is_admitted, is_in_way, IsNobody, IsLeast, HaveSameLocks, AddsShared, AddsExclusive, Releases, KeepsApart};
 
 use crate::holders::{
     add_exclusive, add_shared, drop_holder, idle_holders, is_holder, least_in_way, start,
 };
 use crate::page_set::PageSet;
-use object_graph::Memory;
+use object_graph::{MOST_OPEN, Memory};
 use std::alloc::Global;
 use std::marker::Model;
-
-/// How many transactions can be admitted.
-const MOST_ADMITTED: usize = 64;
 
 /// As many transactions are admitted as can be.
 #[derive(Clone, Copy, Debug, PartialEq, Eq)]
@@ -44,13 +41,14 @@ pub struct Locks {
 
 impl Model for Locks {
     ghost use Rattle.std.specs.Prelude.{◌≤◌, vec_capacity};
-    ghost use Rattle.page_locks.specs.Holding.{most_admitted, LockTable, IsTable};
+    ghost use Rattle.object_graph.specs.declared.limits.TheConstants.{MOST_OPEN};
+    ghost use Rattle.page_locks.specs.Holding.{LockTable, IsTable};
 
     ghost Value = { LockTable };
 
     ghost view = { λ l. record { pages = l.pages; held = l.held.items } };
 
-    ghost invariant = { λ l. (most_admitted ≤ vec_capacity l.held) × (most_admitted ≤ vec_capacity l.idle) × IsTable l.pages l.held.items l.idle.items };
+    ghost invariant = { λ l. (MOST_OPEN ≤ vec_capacity l.held) × (MOST_OPEN ≤ vec_capacity l.idle) × IsTable l.pages l.held.items l.idle.items };
 }
 
 impl Locks {
@@ -59,8 +57,8 @@ impl Locks {
         ensures pages { IfOk result (λ locks. locks.pages ≡ pages) }
         ensures empty { IfOk result (λ locks. locks.held ≡ []) }
     {
-        let held = Vec::with_capacity(alloc, MOST_ADMITTED)?;
-        let idle = idle_holders(alloc, MOST_ADMITTED, pages)?;
+        let held = Vec::with_capacity(alloc, MOST_OPEN)?;
+        let idle = idle_holders(alloc, MOST_OPEN, pages)?;
         Ok(Locks { pages, held, idle })
     }
 
@@ -74,10 +72,10 @@ impl Locks {
     /// Admits a transaction, without locks.
     pub fn admit(&mut self, txn: u32) -> Result<(), TooMany>
         requires { is_admitted self.old.held txn ≡ false }
-        ensures room { OnOk result (length self.old.held < most_admitted) }
+        ensures room { OnOk result (length self.old.held < MOST_OPEN) }
         ensures admitted { OnOk result (numbers self.new.held ≡ numbers self.old.held ++ txn ∷ []) }
         ensures locks { OnOk result (HaveSameLocks self.old.held self.new.held) }
-        ensures full { OnErr result (length self.old.held ≡ most_admitted) }
+        ensures full { OnErr result (length self.old.held ≡ MOST_OPEN) }
         ensures unchanged { OnErr result (self.new ≡ self.old) }
         ensures pages { self.new.pages ≡ self.old.pages }
     {
