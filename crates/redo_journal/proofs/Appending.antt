@@ -6,7 +6,7 @@ use Rattle.std.proofs.lemmas.Option.{same_Some}
 use Rattle.std.proofs.lemmas.List.{take-take, drop-drop}
 use Rattle.disk_trait.specs.Disk.{written, Torn}
 use Rattle.disk_trait.specs.NoteLaws.{length-written, torn_written}
-use Rattle.redo_journal.specs.Area.{IsStaged, area_start, area_size, most_commits}
+use Rattle.redo_journal.specs.Area.{IsStaged, area_start}
 use Rattle.redo_journal.specs.Gated.{TornBehind, behind_open}
 use Rattle.redo_journal.specs.Journals.{JournalParts, IsJournal, HoldsFor, IsAppendedOrNot, IsAppended, appended, need_of, left_of}
 use Rattle.redo_journal.specs.Record.{RecordParts, IsRecordOf, ReadsBack, grammar, size_of, record_bytes, spelled_with_gate}
@@ -15,6 +15,8 @@ use Rattle.redo_journal.specs.declared.kind.Kind.TheVariants.{Commit, Sweep}
 use Rattle.redo_journal.proofs.Spelled.{spelled_record, length-record}
 use Rattle.redo_journal.proofs.FileLaws.{at_any_moment, in_the_end, taken-push, weights-push}
 use Rattle.redo_journal.proofs.GrammarLaws.{grammar_is_local, grammar-size, grammar-weight}
+use Rattle.redo_journal.specs.declared.sizes.TheConstants.{AREA_SIZE, IMAGE_SIZE, FRAME_SIZE}
+use Rattle.object_graph.specs.declared.limits.TheConstants.{MOST_COUNTED}
 
 pub torn_wider : (s m at n : ℕ) (old new : List ℕ) → s ≤ at → at + n ≤ s + m → Torn at n old new → Torn s m old new
 torn_wider s m at n old new le fits torn =
@@ -44,16 +46,16 @@ as_before j rs new file h = record { elsewhere = record { same_length = refl; be
 -- these bytes are the staged record with its gate, and there is room for them
 pub record IsReady (j : JournalParts) (new : RecordParts) (bytes : List ℕ) : Type 0 where
   pub staged : IsStaged (grammar j.pages) (j.base + j.commits) new bytes
-  pub room : j.end + 1 + length bytes ≤ area_size
+  pub room : j.end + 1 + length bytes ≤ AREA_SIZE
 
 pub ready : (j : JournalParts) (new r : RecordParts) (need left : ℕ) → IsJournal j → j.pages ≤ 2 ^ 32 → j.staged ≡ Some new → j.staged ≡ Some r
-    → IsSomeAnd j.staged (λ q. q.kind ≡ Sweep → length q.images ≡ 1) → IfSome j.staged (λ q. q.kind ≡ Commit → j.base + j.commits < most_commits)
+    → IsSomeAnd j.staged (λ q. q.kind ≡ Sweep → length q.images ≡ 1) → IfSome j.staged (λ q. q.kind ≡ Commit → j.base + j.commits < MOST_COUNTED)
     → AllByRecursion ReadsBack r.images → need ≡ need_of j.staged → left ≡ left_of j → need ≤ left → IsReady j new (spelled_with_gate r)
 ready j new r need left keeps small e f one unspent back need_is left_is fits =
     let same : r ≡ new = same_Some r new (sym f ∙ e) in
     let is : IsRecordOf j.pages new = subst (λ (s : Option RecordParts). IfSome s (IsRecordOf j.pages)) e keeps.staged in
     let single : new.kind ≡ Sweep → length new.images ≡ 1 = subst (λ (s : Option RecordParts). IsSomeAnd s (λ q. q.kind ≡ Sweep → length q.images ≡ 1)) e one in
-    let below : new.kind ≡ Commit → j.base + j.commits < most_commits = subst (λ (s : Option RecordParts). IfSome s (λ q. q.kind ≡ Commit → j.base + j.commits < most_commits)) e unspent in
+    let below : new.kind ≡ Commit → j.base + j.commits < MOST_COUNTED = subst (λ (s : Option RecordParts). IfSome s (λ q. q.kind ≡ Commit → j.base + j.commits < MOST_COUNTED)) e unspent in
     let back' : AllByRecursion ReadsBack new.images = subst (λ (q : RecordParts). AllByRecursion ReadsBack q.images) same back in
     let needs : need ≡ size_of new = need_is ∙ ap need_of e in
     let here : IsReady j new (spelled_with_gate new) = record {
@@ -62,29 +64,29 @@ ready j new r need left keeps small e f one unspent back need_is left_is fits =
     } in
     subst (λ (q : RecordParts). IsReady j new (spelled_with_gate q)) (sym same) here
   where
-    room_for : (end need left size count body : ℕ) → end < 262144 → need ≡ 6 + 1028 * count → left ≡ 262144 - (end + 1) → need ≤ left → size ≡ body + 1 → body ≡ 5 + 1028 * count → end + 1 + size ≤ 262144
+    room_for : (end need left size count body : ℕ) → end < AREA_SIZE → need ≡ FRAME_SIZE + IMAGE_SIZE * count → left ≡ AREA_SIZE - (end + 1) → need ≤ left → size ≡ body + 1 → body ≡ 5 + IMAGE_SIZE * count → end + 1 + size ≤ AREA_SIZE
     room_for end need left size count body within needs left_is fits size_is body_is = omega (arith, within, needs, left_is, fits, size_is, body_is)
 
-module _ (j : JournalParts) (rs : List RecordParts) (new : RecordParts) (file : List ℕ) (h : HoldsFor j rs file) (bytes : List ℕ) (staged : IsStaged (grammar j.pages) (j.base + j.commits) new bytes) (room : j.end + 1 + length bytes ≤ area_size) where
+module _ (j : JournalParts) (rs : List RecordParts) (new : RecordParts) (file : List ℕ) (h : HoldsFor j rs file) (bytes : List ℕ) (staged : IsStaged (grammar j.pages) (j.base + j.commits) new bytes) (room : j.end + 1 + length bytes ≤ AREA_SIZE) where
   abbrev gate : ℕ
   gate = area_start j.area + j.end
 
   behind : IsStaged (grammar j.pages) (j.base + weights (grammar j.pages) rs) new bytes
   behind = subst (λ (d : ℕ). IsStaged (grammar j.pages) (j.base + d) new bytes) h.commits staged
 
-  long : area_start j.area + area_size ≤ length file
+  long : area_start j.area + AREA_SIZE ≤ length file
   long = h.holds.long
 
   fits : gate + 1 + length bytes ≤ length file
   fits = omega (arith, room, long)
 
   -- all of it stays within the area
-  inside : (f : List ℕ) → TornBehind gate bytes file f → Torn (area_start j.area) area_size file f
-  inside f (inl torn) = torn_wider (area_start j.area) area_size (gate + 1) (length bytes) file f (omega arith) (omega (arith, room)) torn
+  inside : (f : List ℕ) → TornBehind gate bytes file f → Torn (area_start j.area) AREA_SIZE file f
+  inside f (inl torn) = torn_wider (area_start j.area) AREA_SIZE (gate + 1) (length bytes) file f (omega arith) (omega (arith, room)) torn
   inside f (inr torn) =
-      torn_twice (area_start j.area) area_size file (written (gate + 1) bytes file) f
-      (torn_wider (area_start j.area) area_size (gate + 1) (length bytes) file (written (gate + 1) bytes file) (omega arith) (omega (arith, room)) (torn_written (gate + 1) bytes file fits))
-      (torn_wider (area_start j.area) area_size gate 1 (written (gate + 1) bytes file) f (omega arith) (omega (arith, room)) torn)
+      torn_twice (area_start j.area) AREA_SIZE file (written (gate + 1) bytes file) f
+      (torn_wider (area_start j.area) AREA_SIZE (gate + 1) (length bytes) file (written (gate + 1) bytes file) (omega arith) (omega (arith, room)) (torn_written (gate + 1) bytes file fits))
+      (torn_wider (area_start j.area) AREA_SIZE gate 1 (written (gate + 1) bytes file) f (omega arith) (omega (arith, room)) torn)
 
   pub meanwhile : (f : List ℕ) → TornBehind gate bytes file f → IsAppendedOrNot j rs new file f
   meanwhile f torn = record {

@@ -5,10 +5,11 @@ use Rattle.std.proofs.lemmas.List.Sums.{sum_by-append}
 use Rattle.disk_trait.specs.Disk.{piece, written, Torn}
 use Rattle.disk_trait.specs.NoteLaws.{length-written, torn_written}
 use Rattle.redo_journal.specs.Walk.{Grammar, taken, weights}
-use Rattle.redo_journal.specs.Area.{Holds, HoldsBeforeOrAfter, IsStaged, area_start, area_size, area_of}
+use Rattle.redo_journal.specs.Area.{Holds, HoldsBeforeOrAfter, IsStaged, area_start, area_of}
 use Rattle.redo_journal.specs.Gated.{TornBehind, behind_open}
 use Rattle.redo_journal.proofs.WalkLaws.{IsLocal, taken-cons, weights-cons}
 use Rattle.redo_journal.proofs.AreaLaws.{behind_closed, gate_open, gate_either}
+use Rattle.redo_journal.specs.declared.sizes.TheConstants.{AREA_SIZE}
 
 -- ---- pieces
 
@@ -41,15 +42,15 @@ drop-written at bytes old fits =
     ap (λ (l : List ℕ). drop at l) (append_assoc (take at old) bytes (drop (at + length bytes) old)) ∙ drop_at (take at old) (bytes ++ drop (at + length bytes) old) at (length-take-le at old (omega arith))
 
 module _ {R : Type 0} (g : Grammar R) (l : IsLocal g) (area base : ℕ) (rs : List R) (file : List ℕ) (h : Holds g area base rs file) (n : ℕ) (is : n ≡ 8 + taken g rs) where
-  pub still_before : (gate k : ℕ) (f : List ℕ) → gate ≡ area_start area + n → n < area_size → Torn (gate + 1) k file f → Holds g area base rs f
+  pub still_before : (gate k : ℕ) (f : List ℕ) → gate ≡ area_start area + n → n < AREA_SIZE → Torn (gate + 1) k file f → Holds g area base rs f
   still_before gate k f gate_is inside torn = record {
     long = omega (arith, h.long, torn.same_length);
     reads = behind_closed g l (area_start area) base rs (area_of area file) h.reads n (area_of area f) is
-        (length-piece (area_start area) area_size f (omega (arith, h.long, torn.same_length)) ∙ sym (length-piece (area_start area) area_size file h.long))
-        (piece_front (area_start area) area_size (n + 1) f file (omega arith) (subst (λ (k' : ℕ). take k' f ≡ take k' file) (omega (arith, gate_is)) torn.before));
+        (length-piece (area_start area) AREA_SIZE f (omega (arith, h.long, torn.same_length)) ∙ sym (length-piece (area_start area) AREA_SIZE file h.long))
+        (piece_front (area_start area) AREA_SIZE (n + 1) f file (omega arith) (subst (λ (k' : ℕ). take k' f ≡ take k' file) (omega (arith, gate_is)) torn.before));
   }
 
-  module _ (new : R) (bytes : List ℕ) (staged : IsStaged g (base + weights g rs) new bytes) (gate : ℕ) (gate_is : gate ≡ area_start area + n) (room : n + 1 + length bytes ≤ area_size) where
+  module _ (new : R) (bytes : List ℕ) (staged : IsStaged g (base + weights g rs) new bytes) (gate : ℕ) (gate_is : gate ≡ area_start area + n) (room : n + 1 + length bytes ≤ AREA_SIZE) where
     abbrev body : List ℕ
     body = staged.body
 
@@ -63,13 +64,13 @@ module _ {R : Type 0} (g : Grammar R) (l : IsLocal g) (area base : ℕ) (rs : Li
     staged_len = omega (arith, ap length staged.ends, length-append body (0 ∷ []))
 
     -- a crash while the gate is opened leaves the record behind it
-    behind_gate : (f : List ℕ) → Torn gate 1 two f → drop (n + 1) (area_of area f) ≡ body ++ 0 ∷ take (area_size - (n + 1 + length bytes)) (drop (gate + 1 + length bytes) file)
+    behind_gate : (f : List ℕ) → Torn gate 1 two f → drop (n + 1) (area_of area f) ≡ body ++ 0 ∷ take (AREA_SIZE - (n + 1 + length bytes)) (drop (gate + 1 + length bytes) file)
     behind_gate f torn =
         let behind : drop (area_start area + (n + 1)) f ≡ bytes ++ drop (gate + 1 + length bytes) file =
         subst (λ (j : ℕ). drop j f ≡ bytes ++ drop (gate + 1 + length bytes) file) (omega (arith, gate_is)) (torn.after ∙ drop-written (gate + 1) bytes file fits) in
-        piece_behind (area_start area) area_size (n + 1) (area_size - (n + 1 + length bytes)) f bytes (drop (gate + 1 + length bytes) file) (omega (arith, room)) behind
-        ∙ ap (λ (x : List ℕ). x ++ take (area_size - (n + 1 + length bytes)) (drop (gate + 1 + length bytes) file)) staged.ends
-        ∙ append_assoc body (0 ∷ []) (take (area_size - (n + 1 + length bytes)) (drop (gate + 1 + length bytes) file))
+        piece_behind (area_start area) AREA_SIZE (n + 1) (AREA_SIZE - (n + 1 + length bytes)) f bytes (drop (gate + 1 + length bytes) file) (omega (arith, room)) behind
+        ∙ ap (λ (x : List ℕ). x ++ take (AREA_SIZE - (n + 1 + length bytes)) (drop (gate + 1 + length bytes) file)) staged.ends
+        ∙ append_assoc body (0 ∷ []) (take (AREA_SIZE - (n + 1 + length bytes)) (drop (gate + 1 + length bytes) file))
 
     same_length : (f : List ℕ) → Torn gate 1 two f → length f ≡ length file
     same_length f torn = torn.same_length ∙ length-written (gate + 1) bytes file fits
@@ -77,13 +78,13 @@ module _ {R : Type 0} (g : Grammar R) (l : IsLocal g) (area base : ℕ) (rs : Li
     front_gate : (f : List ℕ) → Torn gate 1 two f → take n (area_of area f) ≡ take n (area_of area file)
     front_gate f torn =
         let both : take gate two ≡ take gate file = sym (take-take gate (gate + 1) two (omega arith)) ∙ ap (λ (x : List ℕ). take gate x) (torn_written (gate + 1) bytes file fits).before ∙ take-take gate (gate + 1) file (omega arith) in
-        piece_front (area_start area) area_size n f file (omega (arith, room)) (subst (λ (j : ℕ). take j f ≡ take j file) gate_is (torn.before ∙ both))
+        piece_front (area_start area) AREA_SIZE n f file (omega (arith, room)) (subst (λ (j : ℕ). take j f ≡ take j file) gate_is (torn.before ∙ both))
 
     area_len : (f : List ℕ) → Torn gate 1 two f → length (area_of area f) ≡ length (area_of area file)
     area_len f torn =
-        length-piece (area_start area) area_size f (omega (arith, h.long, same_length f torn)) ∙ sym (length-piece (area_start area) area_size file h.long)
+        length-piece (area_start area) AREA_SIZE f (omega (arith, h.long, same_length f torn)) ∙ sym (length-piece (area_start area) AREA_SIZE file h.long)
 
-    long_after : (f : List ℕ) → Torn gate 1 two f → area_start area + area_size ≤ length f
+    long_after : (f : List ℕ) → Torn gate 1 two f → area_start area + AREA_SIZE ≤ length f
     long_after f torn = omega (arith, h.long, same_length f torn)
 
     pub either : (f : List ℕ) → Torn gate 1 two f → HoldsBeforeOrAfter g area base rs new f
@@ -91,7 +92,7 @@ module _ {R : Type 0} (g : Grammar R) (l : IsLocal g) (area base : ℕ) (rs : Li
         ⊎_elim
         (λ before. inl (record { long = long_after f torn; reads = before }))
         (λ after. inr (record { long = long_after f torn; reads = after }))
-        (gate_either g l (area_start area) base rs (area_of area file) h.reads n (area_of area f) new body (take (area_size - (n + 1 + length bytes)) (drop (gate + 1 + length bytes) file)) is (area_len f torn) (front_gate f torn) (behind_gate f torn) staged.size (staged.reads (area_start area + n + 1) _))
+        (gate_either g l (area_start area) base rs (area_of area file) h.reads n (area_of area f) new body (take (AREA_SIZE - (n + 1 + length bytes)) (drop (gate + 1 + length bytes) file)) is (area_len f torn) (front_gate f torn) (behind_gate f torn) staged.size (staged.reads (area_start area + n + 1) _))
 
     pub at_any_moment : (f : List ℕ) → TornBehind gate bytes file f → HoldsBeforeOrAfter g area base rs new f
     at_any_moment f (inl torn) = inl (still_before gate (length bytes) f gate_is (omega (arith, room)) torn)
@@ -103,10 +104,10 @@ module _ {R : Type 0} (g : Grammar R) (l : IsLocal g) (area base : ℕ) (rs : Li
         let within : gate + length {A = ℕ} (1 ∷ []) ≤ length two = omega (arith, length-written (gate + 1) bytes file fits, fits) in
         let torn : Torn gate 1 two f = subst (λ (x : List ℕ). Torn gate 1 two x) (sym f_is) (torn_written gate (1 ∷ []) two within) in
         let open_is : get_or (area_of area f) n 0 ≡ 1 =
-        get_or-piece (area_start area) area_size n f (omega (arith, room)) ∙ ap (λ (j : ℕ). get_or f j 0) (sym gate_is) ∙ ap (λ (x : List ℕ). get_or x gate 0) (f_is ∙ append_assoc (take gate two) (1 ∷ []) (drop (gate + 1) two)) ∙ get_or_at (take gate two) 1 (drop (gate + 1) two) 0 gate (length-take-le gate two (omega (arith, within))) in
+        get_or-piece (area_start area) AREA_SIZE n f (omega (arith, room)) ∙ ap (λ (j : ℕ). get_or f j 0) (sym gate_is) ∙ ap (λ (x : List ℕ). get_or x gate 0) (f_is ∙ append_assoc (take gate two) (1 ∷ []) (drop (gate + 1) two)) ∙ get_or_at (take gate two) 1 (drop (gate + 1) two) 0 gate (length-take-le gate two (omega (arith, within))) in
         record {
           long = long_after f torn;
-          reads = gate_open g l (area_start area) base rs (area_of area file) h.reads n (area_of area f) new body (take (area_size - (n + 1 + length bytes)) (drop (gate + 1 + length bytes) file)) is (area_len f torn) (front_gate f torn) (behind_gate f torn) staged.size (staged.reads (area_start area + n + 1) _) open_is;
+          reads = gate_open g l (area_start area) base rs (area_of area file) h.reads n (area_of area f) new body (take (AREA_SIZE - (n + 1 + length bytes)) (drop (gate + 1 + length bytes) file)) is (area_len f torn) (front_gate f torn) (behind_gate f torn) staged.size (staged.reads (area_start area + n + 1) _) open_is;
         }
 
 -- ---- what the journal counts

@@ -12,6 +12,7 @@ use Rattle.redo_journal.specs.declared.faults.AreaFault.{AreaFault}
 use Rattle.redo_journal.specs.declared.faults.AreaFault.TheVariants.{DiskFault, BadRecord, Memory}
 use Rattle.redo_journal.specs.Walk.{weights}
 use Rattle.redo_journal.proofs.WalkLaws.{IsLocal, ok}
+use Rattle.redo_journal.specs.declared.sizes.TheConstants.{PAGE_SIZE, IMAGE_SIZE, FRAME_SIZE}
 
 pub unok : {A : Type 0} (x y : A) → ok x ≡ ok y → x ≡ y
 unok x y h = cc
@@ -31,7 +32,7 @@ piece_same : (i m k : ℕ) (xs ys : List ℕ) → i + m ≤ k → take k xs ≡ 
 piece_same i m k xs ys le same =
     sym (drop-take i m xs) ∙ ap (λ (l : List ℕ). drop i l) (sym (take-take (i + m) k xs le) ∙ ap (λ (l : List ℕ). take (i + m) l) same ∙ take-take (i + m) k ys le) ∙ drop-take i m ys
 
-image_same : (pages place low : ℕ) (xs ys : List ℕ) → take 4 xs ≡ take 4 ys → take 1024 (drop 4 xs) ≡ take 1024 (drop 4 ys) → image_at pages place low xs ≡ image_at pages place low ys
+image_same : (pages place low : ℕ) (xs ys : List ℕ) → take 4 xs ≡ take 4 ys → take PAGE_SIZE (drop 4 xs) ≡ take PAGE_SIZE (drop 4 ys) → image_at pages place low xs ≡ image_at pages place low ys
 unfolding image_at
 image_same pages place low xs ys number image = rw (number, image) refl
 
@@ -39,16 +40,16 @@ bind_same : {A B : Type 0} (r s : Result A ℕ) (f g : A → Result B ℕ) → r
 bind_same (Ok x) s f g same each = each x ∙ ap (λ (q : Result _ ℕ). q >>= g) same
 bind_same (Err at) s f g same each = ap (λ (q : Result _ ℕ). q >>= g) same
 
-images_same : (pages place low n : ℕ) (xs ys : List ℕ) → take (1028 * n) xs ≡ take (1028 * n) ys → images_at pages place low n xs ≡ images_at pages place low n ys
+images_same : (pages place low n : ℕ) (xs ys : List ℕ) → take (IMAGE_SIZE * n) xs ≡ take (IMAGE_SIZE * n) ys → images_at pages place low n xs ≡ images_at pages place low n ys
 unfolding images_at
 images_same pages place low zero xs ys same = refl
 images_same pages place low (suc n) xs ys same =
-    let number : take 4 xs ≡ take 4 ys = piece_same 0 4 (1028 * suc n) xs ys (omega arith) same in
-    let image : take 1024 (drop 4 xs) ≡ take 1024 (drop 4 ys) = piece_same 4 1024 (1028 * suc n) xs ys (omega arith) same in
-    let rest : (low' : ℕ) → images_at pages (place + 1028) low' n (drop 1028 xs) ≡ images_at pages (place + 1028) low' n (drop 1028 ys) = λ low'. images_same pages (place + 1028) low' n (drop 1028 xs) (drop 1028 ys) (piece_same 1028 (1028 * n) (1028 * suc n) xs ys (omega arith) same) in
+    let number : take 4 xs ≡ take 4 ys = piece_same 0 4 (IMAGE_SIZE * suc n) xs ys (omega arith) same in
+    let image : take PAGE_SIZE (drop 4 xs) ≡ take PAGE_SIZE (drop 4 ys) = piece_same 4 PAGE_SIZE (IMAGE_SIZE * suc n) xs ys (omega arith) same in
+    let rest : (low' : ℕ) → images_at pages (place + IMAGE_SIZE) low' n (drop IMAGE_SIZE xs) ≡ images_at pages (place + IMAGE_SIZE) low' n (drop IMAGE_SIZE ys) = λ low'. images_same pages (place + IMAGE_SIZE) low' n (drop IMAGE_SIZE xs) (drop IMAGE_SIZE ys) (piece_same IMAGE_SIZE (IMAGE_SIZE * n) (IMAGE_SIZE * suc n) xs ys (omega arith) same) in
     bind_same (image_at pages place low xs) (image_at pages place low ys)
-    (λ (p : PageParts). images_at pages (place + 1028) (p.number + 1) n (drop 1028 xs) >>= λ (others : List PageParts). ok (p ∷ others))
-    (λ (p : PageParts). images_at pages (place + 1028) (p.number + 1) n (drop 1028 ys) >>= λ (others : List PageParts). ok (p ∷ others))
+    (λ (p : PageParts). images_at pages (place + IMAGE_SIZE) (p.number + 1) n (drop IMAGE_SIZE xs) >>= λ (others : List PageParts). ok (p ∷ others))
+    (λ (p : PageParts). images_at pages (place + IMAGE_SIZE) (p.number + 1) n (drop IMAGE_SIZE ys) >>= λ (others : List PageParts). ok (p ∷ others))
     (image_same pages place low xs ys number image)
     (λ p. ap (λ (r : Result (List PageParts) ℕ). r >>= λ (others : List PageParts). ok (p ∷ others)) (rest (p.number + 1)))
 
@@ -56,10 +57,10 @@ pub images_length : (pages place low n : ℕ) (xs : List ℕ) (images : List Pag
 unfolding images_at
 images_length pages place low zero xs images e = ap length (sym (unok [] images e))
 images_length pages place low (suc n) xs images e =
-    let after_image = λ (image : PageParts). images_at pages (place + 1028) (image.number + 1) n (drop 1028 xs) >>= λ (others : List PageParts). ok (image ∷ others) in
+    let after_image = λ (image : PageParts). images_at pages (place + IMAGE_SIZE) (image.number + 1) n (drop IMAGE_SIZE xs) >>= λ (others : List PageParts). ok (image ∷ others) in
     let a = bind_ok (image_at pages place low xs) after_image images e in
-    let d = bind_ok (images_at pages (place + 1028) (a.0.number + 1) n (drop 1028 xs)) (λ (others : List PageParts). ok (a.0 ∷ others)) images a.2 in
-    let more = images_length pages (place + 1028) (a.0.number + 1) n (drop 1028 xs) d.0 d.1 in
+    let d = bind_ok (images_at pages (place + IMAGE_SIZE) (a.0.number + 1) n (drop IMAGE_SIZE xs)) (λ (others : List PageParts). ok (a.0 ∷ others)) images a.2 in
+    let more = images_length pages (place + IMAGE_SIZE) (a.0.number + 1) n (drop IMAGE_SIZE xs) d.0 d.1 in
     let long : length (a.0 ∷ d.0) ≡ suc n = omega (arith, more) in
     ap length (sym (unok (a.0 ∷ d.0) images d.2)) ∙ long
 
@@ -73,7 +74,7 @@ pub record Sized (pages place done : ℕ) (bytes : List ℕ) (r : RecordParts) :
   pub images_ok : images_at pages (place + 5) 0 count (drop 5 bytes) ≡ Ok pages_read
   pub whole : record { kind = kind; images = pages_read } ≡ r
   pub images : length r.images ≡ count
-  pub room : 6 + 1028 * count ≤ length bytes
+  pub room : FRAME_SIZE + IMAGE_SIZE * count ≤ length bytes
 
 pub sized : (pages place done : ℕ) (bytes : List ℕ) (r : RecordParts) → record_at pages place done bytes ≡ Ok r → Sized pages place done bytes r
 unfolding record_at
@@ -85,8 +86,8 @@ sized pages place done bytes r e =
     let a = bind_ok (kind_at place done (get_or bytes 0 0)) after_kind r e in
     let b = bind_ok (count_at (place + 1) a.0 (length bytes) N) (after_count a.0) r a.2 in
     let c = bind_ok (images_at pages (place + 5) 0 b.0 (drop 5 bytes)) (after_images a.0) r b.2 in
-    let g = guard_ok (leb 5 (length bytes) && (is_count a.0 N && leb (6 + 1028 * N) (length bytes))) (place + 1) N b.0 b.1 in
-    let fits = and_parts (is_count a.0 N) (leb (6 + 1028 * N) (length bytes)) (and_parts (leb 5 (length bytes)) (is_count a.0 N && leb (6 + 1028 * N) (length bytes)) g.0).1 in
+    let g = guard_ok (leb 5 (length bytes) && (is_count a.0 N && leb (FRAME_SIZE + IMAGE_SIZE * N) (length bytes))) (place + 1) N b.0 b.1 in
+    let fits = and_parts (is_count a.0 N) (leb (FRAME_SIZE + IMAGE_SIZE * N) (length bytes)) (and_parts (leb 5 (length bytes)) (is_count a.0 N && leb (FRAME_SIZE + IMAGE_SIZE * N) (length bytes)) g.0).1 in
     let q : RecordParts = record { kind = a.0; images = c.0 } in
     let r_is : q ≡ r = unok q r c.2 in
     record {
@@ -101,13 +102,13 @@ sized pages place done bytes r e =
       room = omega (arith, leb-true _ _ fits.1, g.1);
     }
 
-record_same : (pages p d : ℕ) (bytes others : List ℕ) (r : RecordParts) → Sized pages p d bytes r → length others ≡ length bytes → take (5 + 1028 * length r.images) others ≡ take (5 + 1028 * length r.images) bytes → record_at pages p d others ≡ Ok r
+record_same : (pages p d : ℕ) (bytes others : List ℕ) (r : RecordParts) → Sized pages p d bytes r → length others ≡ length bytes → take (5 + IMAGE_SIZE * length r.images) others ≡ take (5 + IMAGE_SIZE * length r.images) bytes → record_at pages p d others ≡ Ok r
 unfolding record_at
 record_same pages p d bytes others r s len agree =
-    let n = 5 + 1028 * length r.images in
+    let n = 5 + IMAGE_SIZE * length r.images in
     let head : get_or others 0 0 ≡ get_or bytes 0 0 = sym (get_or-take n others 0 0 (omega arith)) ∙ ap (λ (x : List ℕ). get_or x 0 0) agree ∙ get_or-take n bytes 0 0 (omega arith) in
     let number : take 4 (drop 1 others) ≡ take 4 (drop 1 bytes) = piece_same 1 4 n others bytes (omega arith) agree in
-    let behind : take (1028 * s.count) (drop 5 others) ≡ take (1028 * s.count) (drop 5 bytes) = piece_same 5 (1028 * s.count) n others bytes (omega (arith, s.images)) agree in
+    let behind : take (IMAGE_SIZE * s.count) (drop 5 others) ≡ take (IMAGE_SIZE * s.count) (drop 5 bytes) = piece_same 5 (IMAGE_SIZE * s.count) n others bytes (omega (arith, s.images)) agree in
     let kind : kind_at p d (get_or others 0 0) ≡ Ok s.kind = ap (kind_at p d) head ∙ s.kind_ok in
     let count : count_at (p + 1) s.kind (length others) (from_be_bytes w32 (take 4 (drop 1 others))) ≡ Ok s.count = rw (len, number) s.count_ok in
     let images : images_at pages (p + 5) 0 s.count (drop 5 others) ≡ Ok s.pages_read = images_same pages (p + 5) 0 s.count (drop 5 others) (drop 5 bytes) behind ∙ s.images_ok in
@@ -152,7 +153,7 @@ pub grammar-at : (pages p d : ℕ) (bytes : List ℕ) → (grammar pages).at p d
 unfolding grammar
 grammar-at pages p d bytes = refl
 
-pub grammar-size : (pages : ℕ) (r : RecordParts) → (grammar pages).size r ≡ 5 + 1028 * length r.images
+pub grammar-size : (pages : ℕ) (r : RecordParts) → (grammar pages).size r ≡ 5 + IMAGE_SIZE * length r.images
 unfolding grammar
 grammar-size pages r = refl
 

@@ -5,6 +5,7 @@ use Rattle.std.proofs.lemmas.List.{length-take, get_or-take, get_or-drop, take_a
 use Rattle.disk_trait.specs.Disk.{piece, written, Torn}
 use Rattle.redo_journal.specs.Homes.{DiffersInHomes, IsInHome, home_start, home_of}
 use Rattle.redo_journal.proofs.FileLaws.{length-piece, get_or-piece, drop-written}
+use Rattle.redo_journal.specs.declared.sizes.TheConstants.{HOMES_START, PAGE_SIZE}
 
 -- ---- pieces
 
@@ -43,23 +44,23 @@ torn-behind at n old new torn i le =
     ap (λ m. get_or new m 0) (sym is) ∙ sym (get_or-drop (at + n) new k 0) ∙ ap (λ (l : List ℕ). get_or l k 0) torn.after ∙ get_or-drop (at + n) old k 0 ∙ ap (λ m. get_or old m 0) is
 
 -- a home that is torn
-pub torn_home : (named : ℕ → Bool) (page : ℕ) (old new : List ℕ) → named page ≡ true → Torn (home_start page) 1024 old new → DiffersInHomes named old new
+pub torn_home : (named : ℕ → Bool) (page : ℕ) (old new : List ℕ) → named page ≡ true → Torn (home_start page) PAGE_SIZE old new → DiffersInHomes named old new
 torn_home named page old new is torn = record {
   same_length = torn.same_length;
   elsewhere = λ i out. elim (cases_lt i (home_start page)) [
-    | inl before ↦ torn-before (home_start page) 1024 old new torn i before
-    | inr from ↦ elim (cases_lt i (home_start page + 1024)) [
+    | inl before ↦ torn-before (home_start page) PAGE_SIZE old new torn i before
+    | inr from ↦ elim (cases_lt i (home_start page + PAGE_SIZE)) [
       | inl within ↦ absurd (out page is (from, within))
-      | inr behind ↦ torn-behind (home_start page) 1024 old new torn i behind
+      | inr behind ↦ torn-behind (home_start page) PAGE_SIZE old new torn i behind
     ]
   ];
 }
 
 -- an image that was written home is read there
-pub home_written : (page : ℕ) (bytes file : List ℕ) → length bytes ≡ 1024 → home_start page + 1024 ≤ length file → home_of page (written (home_start page) bytes file) ≡ bytes
+pub home_written : (page : ℕ) (bytes file : List ℕ) → length bytes ≡ PAGE_SIZE → home_start page + PAGE_SIZE ≤ length file → home_of page (written (home_start page) bytes file) ≡ bytes
 home_written page bytes file long fits =
     let start = home_start page in
-    ap (λ (l : List ℕ). take 1024 l) (drop-written start bytes file (omega (arith, long, fits))) ∙ take_at bytes (drop (start + length bytes) file) 1024 long
+    ap (λ (l : List ℕ). take PAGE_SIZE l) (drop-written start bytes file (omega (arith, long, fits))) ∙ take_at bytes (drop (start + length bytes) file) PAGE_SIZE long
 
 -- ---- files that differ in homes
 
@@ -79,7 +80,7 @@ differs_more named more a b within d = record {
 }
 
 -- what stands before the homes is the same
-pub same_front : (named : ℕ → Bool) (old new : List ℕ) (at n : ℕ) → DiffersInHomes named old new → at + n ≤ 525312 → piece at n new ≡ piece at n old
+pub same_front : (named : ℕ → Bool) (old new : List ℕ) (at n : ℕ) → DiffersInHomes named old new → at + n ≤ HOMES_START → piece at n new ≡ piece at n old
 same_front named old new at n d low =
     same_pieces at n new old d.same_length (λ i from below. d.elsewhere i (λ page is inside. absurd (omega (arith, inside.0, below, low))))
 
@@ -89,7 +90,7 @@ one_home page other i here there = omega (arith, here.0, here.1, there.0, there.
 -- so is the home of a page that isn't named
 pub same_home : (named : ℕ → Bool) (old new : List ℕ) (page : ℕ) → DiffersInHomes named old new → named page ≡ false → home_of page new ≡ home_of page old
 same_home named old new page d not_named =
-    same_pieces (home_start page) 1024 new old d.same_length (λ i from below. d.elsewhere i (λ other is inside.
+    same_pieces (home_start page) PAGE_SIZE new old d.same_length (λ i from below. d.elsewhere i (λ other is inside.
     let same : other ≡ page = one_home page other i (from, below) inside in
     let both : true ≡ false = sym is ∙ ap named same ∙ not_named in
     absurd (cc both)))

@@ -9,6 +9,7 @@ use Rattle.redo_journal.specs.Homes.{home_start, home_of, AreHome}
 use Rattle.redo_journal.specs.Replays.{later, last_image, is_among}
 use Rattle.redo_journal.proofs.LastImages.{last-append}
 use Rattle.redo_journal.proofs.HomeBytes.{torn_home, home_written, differs_not, differs_then, differs_more, same_home}
+use Rattle.redo_journal.specs.declared.sizes.TheConstants.{PAGE_SIZE}
 
 -- ---- the last image of a page
 
@@ -41,7 +42,7 @@ among_right xs ys page is = ap (λ (o : Option PageParts). is_some o) (last-appe
 pub none_home : (file : List ℕ) → AreHome [] file file
 none_home file = record { elsewhere = differs_not (is_among []) file; homes = λ page p e. absurd cc }
 
-pub one_home : (p : PageParts) (bytes file : List ℕ) → length bytes ≡ 1024 → page_at bytes ≡ Ok p → home_start p.number + 1024 ≤ length file → AreHome (p ∷ []) file (written (home_start p.number) bytes file)
+pub one_home : (p : PageParts) (bytes file : List ℕ) → length bytes ≡ PAGE_SIZE → page_at bytes ≡ Ok p → home_start p.number + PAGE_SIZE ≤ length file → AreHome (p ∷ []) file (written (home_start p.number) bytes file)
 one_home p bytes file long is fits = record {
   elsewhere = torn_home (is_among (p ∷ [])) p.number file (written (home_start p.number) bytes file) (among_one p)
       (subst (λ n. Torn (home_start p.number) n file (written (home_start p.number) bytes file)) long (torn_written (home_start p.number) bytes file (omega (arith, long, fits))));

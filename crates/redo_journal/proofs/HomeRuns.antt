@@ -3,6 +3,7 @@ use Rattle.std.proofs.Common.{◌≡◌, ℕ, ◌+◌, ◌<◌, ◌≤◌, true,
 use Rattle.std.proofs.lemmas.List.{append-nil}
 use Rattle.std.specs.Prelude.{IsSomeAnd}
 use Rattle.std.specs.Int.{w32, from_be_bytes}
+use Rattle.disk_trait.specs.declared.disk.Disk.{Ghosts as DiskOf}
 use Rattle.page_image.specs.Pages.{PageParts}
 use Rattle.page_image.specs.Fields.{page_at}
 use Rattle.redo_journal.specs.Homes.{DiffersInHomes, AreHome}
@@ -11,16 +12,17 @@ use Rattle.redo_journal.specs.Sending.{IsImageAt, AreImagesAt, ChangesHomes, num
 use Rattle.redo_journal.proofs.HomeBytes.{same_front}
 use Rattle.redo_journal.proofs.HomeImages.{none_home, home_then, among_left, among_right}
 use Rattle.redo_journal.proofs.HomeMoments.{some_and, and_some, some_more, changes_more, changes_then}
+use Rattle.redo_journal.specs.declared.sizes.TheConstants.{HOMES_START, PAGE_SIZE, IMAGE_SIZE}
 
 -- a number and an image that stand before the homes stand there still
-pub number_still : (named : _) (old new : List ℕ) (at : ℕ) → DiffersInHomes named old new → at + 4 ≤ 525312 → number_at at new ≡ number_at at old
+pub number_still : (named : _) (old new : List ℕ) (at : ℕ) → DiffersInHomes named old new → at + 4 ≤ HOMES_START → number_at at new ≡ number_at at old
 number_still named old new at d low = ap (from_be_bytes w32) (same_front named old new at 4 d low)
 
-pub image_still : (named : _) (old new : List ℕ) (pages at : ℕ) (p : PageParts) → DiffersInHomes named old new → at + 1028 ≤ 525312 → IsImageAt pages at p old → IsImageAt pages at p new
+pub image_still : (named : _) (old new : List ℕ) (pages at : ℕ) (p : PageParts) → DiffersInHomes named old new → at + IMAGE_SIZE ≤ HOMES_START → IsImageAt pages at p old → IsImageAt pages at p new
 image_still named old new pages at p d low stands = record {
   below = stands.below;
   number = number_still named old new at d (omega (arith, low)) ∙ stands.number;
-  image = ap page_at (same_front named old new (at + 4) 1024 d (omega (arith, low))) ∙ stands.image;
+  image = ap page_at (same_front named old new (at + 4) PAGE_SIZE d (omega (arith, low))) ∙ stands.image;
 }
 
 -- so many images are left, and those before them are home
@@ -39,7 +41,7 @@ pub record NextImage (pages at left : ℕ) (images : List PageParts) (first : Li
   pub image : PageParts
   pub stands : IsImageAt pages at image file
   pub among : (page : ℕ) → is_among (image ∷ []) page ≡ true → is_among images page ≡ true
-  pub goes_on : (new : Option (List ℕ)) (next less : ℕ) → next ≡ at + 1028 → less + 1 ≡ left → IsSomeAnd new (AreHome (image ∷ []) file) → ImagesLeft pages next less images first new
+  pub goes_on : (new : Option (List ℕ)) (next less : ℕ) → next ≡ at + IMAGE_SIZE → less + 1 ≡ left → IsSomeAnd new (AreHome (image ∷ []) file) → ImagesLeft pages next less images first new
 
 pub images_start : (pages start at count left : ℕ) (images : List PageParts) (first : List ℕ) (content : Option (List ℕ)) → content ≡ Some first → AreImagesAt pages start images first → length images ≡ count
     → at ≡ start → left ≡ count → ImagesLeft pages at left images first content
@@ -53,7 +55,7 @@ images_start pages start at count left images first content told stand long at_i
 }
 
 module _ (pages at left : ℕ) (images : List PageParts) (first : List ℕ) (content : Option (List ℕ)) where
-  next_of : (done rest : List PageParts) → images ≡ done ++ rest → length rest ≡ left → AreImagesAt pages at rest first → IsSomeAnd content (AreHome done first) → 0 < left → at + 1028 ≤ 525312
+  next_of : (done rest : List PageParts) → images ≡ done ++ rest → length rest ≡ left → AreImagesAt pages at rest first → IsSomeAnd content (AreHome done first) → 0 < left → at + IMAGE_SIZE ≤ HOMES_START
       → NextImage pages at left images first content
   next_of done [] split count stand sent some low = absurd (omega (arith, count, some))
   next_of done (p ∷ rest) split count stand sent some low =
@@ -75,7 +77,7 @@ module _ (pages at left : ℕ) (images : List PageParts) (first : List ℕ) (con
         };
       }
 
-  pub images_next : ImagesLeft pages at left images first content → 0 < left → at + 1028 ≤ 525312 → NextImage pages at left images first content
+  pub images_next : ImagesLeft pages at left images first content → 0 < left → at + IMAGE_SIZE ≤ HOMES_START → NextImage pages at left images first content
   images_next l some low = next_of l.done l.rest l.split l.count l.stand l.sent some low
 
   none_left : (done rest : List PageParts) → images ≡ done ++ rest → length rest ≡ 0 → IsSomeAnd content (AreHome done first) → IsSomeAnd content (AreHome images first)
@@ -85,15 +87,15 @@ module _ (pages at left : ℕ) (images : List PageParts) (first : List ℕ) (con
   pub images_end : ImagesLeft pages at left images first content → left ≡ 0 → IsSomeAnd content (AreHome images first)
   images_end l none = none_left l.done l.rest l.split (l.count ∙ none) l.sent
 
-module _ {D : Type 0} (content : D → Option (List ℕ)) (may_leave : D → List ℕ → Type 0) (moment : D → ℕ) (left_since : D → ℕ → List ℕ → Type 0)
-    (counts_now : (d : D) (t : ℕ) (c : List ℕ) → t ≤ moment d → may_leave d c → left_since d t c)
+module _ {D : Type 0} (disks : DiskOf D)
+    (counts_now : (d : D) (t : ℕ) (c : List ℕ) → t ≤ disks.moment d → disks.may_leave d c → disks.left_since d t c)
   where
     -- the calls that send the next image change the homes of the images alone
-    pub images_change : (pages at left : ℕ) (images : List PageParts) (first : List ℕ) (old mid new : D) → ImagesLeft pages at left images first (content mid) → 0 < left → at + 1028 ≤ 525312
-        → ChangesHomes content may_leave moment left_since (is_among images) old mid
-        → ((file : List ℕ) (p : PageParts) → content mid ≡ Some file → IsImageAt pages at p file → ChangesHomes content may_leave moment left_since (is_among (p ∷ [])) mid new)
-        → ChangesHomes content may_leave moment left_since (is_among images) old new
+    pub images_change : (pages at left : ℕ) (images : List PageParts) (first : List ℕ) (old mid new : D) → ImagesLeft pages at left images first (disks.content mid) → 0 < left → at + IMAGE_SIZE ≤ HOMES_START
+        → ChangesHomes disks (is_among images) old mid
+        → ((file : List ℕ) (p : PageParts) → disks.content mid ≡ Some file → IsImageAt pages at p file → ChangesHomes disks (is_among (p ∷ [])) mid new)
+        → ChangesHomes disks (is_among images) old new
     images_change pages at left images first old mid new l some low before one =
-        let next = images_next pages at left images first (content mid) l some low in
-        changes_then content may_leave moment left_since counts_now (is_among images) old mid new before
-        (changes_more content may_leave moment left_since (is_among (next.image ∷ [])) (is_among images) mid new next.among (one next.file next.image next.told next.stands))
+        let next = images_next pages at left images first (disks.content mid) l some low in
+        changes_then disks counts_now (is_among images) old mid new before
+        (changes_more disks (is_among (next.image ∷ [])) (is_among images) mid new next.among (one next.file next.image next.told next.stands))

@@ -1,24 +1,18 @@
 -- A journal area.
-use Rattle.std.specs.Prelude.{◌≡◌, ◌⊎◌, ℕ, ◌+◌, ◌*◌, ◌^◌, ◌≤◌, nat_lt, List, [], ◌∷◌, ◌++◌, length, take, Result, Ok, Err, if◌then◌else◌}
+use Rattle.std.specs.Prelude.{◌≡◌, ◌⊎◌, ℕ, ◌+◌, ◌*◌, ◌≤◌, nat_lt, List, [], ◌∷◌, ◌++◌, length, take, Result, Ok, Err, if◌then◌else◌}
 use Rattle.std.specs.Int.{w64, from_be_bytes}
 use Rattle.disk_trait.specs.Disk.{piece}
 use Rattle.redo_journal.specs.Walk.{Grammar, walk}
-
--- the length of an area
-abbrev pub area_size : ℕ
-area_size = 262144
+use Rattle.redo_journal.specs.declared.sizes.TheConstants.{HEAD_SIZE, AREA_SIZE}
+use Rattle.object_graph.specs.declared.limits.TheConstants.{MOST_COUNTED}
 
 -- where an area begins in the store file
 abbrev pub area_start : ℕ → ℕ
-area_start area = 1024 + area_size * area
+area_start area = HEAD_SIZE + AREA_SIZE * area
 
 -- where the first gate stands, from the area's beginning
 abbrev pub first_gate : ℕ
 first_gate = 8
-
--- the most commits that a store counts
-abbrev pub most_commits : ℕ
-most_commits = 2 ^ 48
 
 -- what an area holds
 pub record Contents (R : Type 0) : Type 0 where
@@ -35,15 +29,15 @@ base_in bytes = from_be_bytes w64 (take 8 bytes)
 
 -- what the bytes of an area hold, or the place of the first wrong field
 abbrev pub read_area : {R : Type 0} → Grammar R → ℕ → List ℕ → Result (Contents R) ℕ
-read_area g start bytes = if nat_lt most_commits (base_in bytes) then Err start else from_base (base_in bytes) (walk g start (base_in bytes) first_gate bytes)
+read_area g start bytes = if nat_lt MOST_COUNTED (base_in bytes) then Err start else from_base (base_in bytes) (walk g start (base_in bytes) first_gate bytes)
 
 -- the bytes of an area in a store file
 abbrev pub area_of : ℕ → List ℕ → List ℕ
-area_of area file = piece (area_start area) area_size file
+area_of area file = piece (area_start area) AREA_SIZE file
 
 -- the file's area has this base and these records
 pub record Holds {R : Type 0} (g : Grammar R) (area base : ℕ) (records : List R) (file : List ℕ) : Type 0 where
-  pub long : area_start area + area_size ≤ length file
+  pub long : area_start area + AREA_SIZE ≤ length file
   pub reads : read_area g (area_start area) (area_of area file) ≡ Ok (record { base = base; records = records })
 
 -- the records before, with the new one or without

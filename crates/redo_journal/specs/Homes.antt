@@ -5,21 +5,22 @@ use Rattle.page_image.specs.Pages.{PageParts}
 use Rattle.page_image.specs.Fields.{page_at}
 use Rattle.redo_journal.specs.Record.{RecordParts}
 use Rattle.redo_journal.specs.Replays.{images_in, last_image, is_among}
+use Rattle.redo_journal.specs.declared.sizes.TheConstants.{HOMES_START, PAGE_SIZE}
 
 -- where the home of a page begins in the store file
 abbrev pub home_start : ℕ → ℕ
-home_start page = 525312 + 1024 * page
+home_start page = HOMES_START + PAGE_SIZE * page
 
 -- the bytes of a store of so many pages
 abbrev pub store_size : ℕ → ℕ
-store_size pages = 525312 + 1024 * pages
+store_size pages = HOMES_START + PAGE_SIZE * pages
 
 abbrev pub home_of : ℕ → List ℕ → List ℕ
-home_of page file = piece (home_start page) 1024 file
+home_of page file = piece (home_start page) PAGE_SIZE file
 
 -- the byte at this place is one of the page's home
 abbrev pub IsInHome : ℕ → ℕ → Type 0
-IsInHome page at = (home_start page ≤ at) × (at < home_start page + 1024)
+IsInHome page at = (home_start page ≤ at) × (at < home_start page + PAGE_SIZE)
 
 -- they differ in the homes alone of such pages
 pub record DiffersInHomes (named : ℕ → Bool) (old new : List ℕ) : Type 0 where

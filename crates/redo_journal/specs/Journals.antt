@@ -2,10 +2,12 @@
 use Rattle.std.specs.Prelude.{◌≡◌, ℕ, ◌+◌, ◌-◌, ◌≤◌, ◌<◌, List, [], ◌∷◌, ◌++◌, Option, Some, None, IfSome, option_map}
 use Rattle.disk_trait.specs.Disk.{Torn}
 use Rattle.page_image.specs.Pages.{PageParts}
-use Rattle.redo_journal.specs.Area.{Holds, HoldsBeforeOrAfter, area_size, area_start, first_gate, most_commits}
+use Rattle.redo_journal.specs.Area.{Holds, HoldsBeforeOrAfter, area_start, first_gate}
 use Rattle.redo_journal.specs.Record.{RecordParts, IsRecordOf, grammar, size_of, commits_of, with_image}
 use Rattle.redo_journal.specs.Walk.{taken, weights}
 use Rattle.redo_journal.specs.declared.kind.Kind.{Kind}
+use Rattle.redo_journal.specs.declared.sizes.TheConstants.{AREA_SIZE}
+use Rattle.object_graph.specs.declared.limits.TheConstants.{MOST_COUNTED}
 
 -- its area, the pages of the store, the base and the counted commits of the area, where the first closed gate
 -- stands from the area's beginning, and the record that is to be appended next
@@ -25,8 +27,8 @@ staged_of (Some kind) images = Some (record { kind = kind; images = images })
 -- what each journal keeps
 pub record IsJournal (journal : JournalParts) : Type 0 where
   pub area : journal.area < 2
-  pub within : journal.end < area_size
-  pub counted : journal.base + journal.commits ≤ most_commits
+  pub within : journal.end < AREA_SIZE
+  pub counted : journal.base + journal.commits ≤ MOST_COUNTED
   pub staged : IfSome journal.staged (IsRecordOf journal.pages)
 
 -- the journal's area on the file has its base and these records
@@ -46,7 +48,7 @@ need_of (Some r) = size_of r
 
 -- the bytes behind the first closed gate
 abbrev pub left_of : JournalParts → ℕ
-left_of journal = area_size - (journal.end + 1)
+left_of journal = AREA_SIZE - (journal.end + 1)
 
 -- the journal with an empty record staged
 abbrev pub begun : Kind → JournalParts → JournalParts
@@ -63,10 +65,10 @@ appended r journal = record journal { commits = journal.commits + commits_of r.k
 -- What a crash leaves while a record is appended: all bytes outside the area, and in it the records from
 -- before, with the new one or without.
 pub record IsAppendedOrNot (journal : JournalParts) (records : List RecordParts) (new : RecordParts) (old file : List ℕ) : Type 0 where
-  pub elsewhere : Torn (area_start journal.area) area_size old file
+  pub elsewhere : Torn (area_start journal.area) AREA_SIZE old file
   pub area : HoldsBeforeOrAfter (grammar journal.pages) journal.area journal.base records new file
 
 -- the file after the append: all bytes outside the area, and in it the records with the new one
 pub record IsAppended (journal : JournalParts) (records : List RecordParts) (new : RecordParts) (old file : List ℕ) : Type 0 where
-  pub elsewhere : Torn (area_start journal.area) area_size old file
+  pub elsewhere : Torn (area_start journal.area) AREA_SIZE old file
   pub area : HoldsFor journal (records ++ new ∷ []) file

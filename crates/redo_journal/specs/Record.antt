@@ -6,31 +6,21 @@ use Rattle.std.specs.Int.{w32, to_be_bytes, from_be_bytes}
 use Rattle.page_image.specs.Pages.{PageParts}
 use Rattle.page_image.specs.Fields.{page_at}
 use Rattle.page_image.specs.Spelling.{page_bytes}
-use Rattle.redo_journal.specs.Area.{most_commits}
 use Rattle.redo_journal.specs.Results.{◌>>=◌, from_place}
 use Rattle.redo_journal.specs.Walk.{Grammar}
 use Rattle.redo_journal.specs.declared.kind.Kind.{Kind}
 use Rattle.redo_journal.specs.declared.kind.Kind.TheVariants.{Commit, Sweep}
+use Rattle.redo_journal.specs.declared.sizes.TheConstants.{PAGE_SIZE, IMAGE_SIZE, FRAME_SIZE}
+use Rattle.object_graph.specs.declared.limits.TheConstants.{MOST_COUNTED, MOST_WRITTEN}
 
 -- its kind, and the pages that it writes
 pub record RecordParts : Type 0 where
   pub kind : Kind
   pub images : List PageParts
 
--- the most pages of a record
-abbrev pub most_images : ℕ
-most_images = 64
-
--- the bytes of a page with its number, and of a record around its pages: kind, count and the gate behind it
-abbrev pub image_size : ℕ
-image_size = 1028
-
-abbrev pub frame_size : ℕ
-frame_size = 6
-
 -- the length of a record with its gate
 abbrev pub size_of : RecordParts → ℕ
-size_of r = frame_size + image_size * length r.images
+size_of r = FRAME_SIZE + IMAGE_SIZE * length r.images
 
 -- the commits that a record counts for
 abbrev pub commits_of : Kind → ℕ
@@ -47,7 +37,7 @@ commits_in records = sum_by (λ r. commits_of r.kind) records
 unfoldable pub image_at : ℕ → ℕ → ℕ → List ℕ → Result PageParts ℕ
 image_at pages place low bytes = do
   number ← if nat_le low (from_be_bytes w32 (take 4 bytes)) && nat_lt (from_be_bytes w32 (take 4 bytes)) pages then Ok (from_be_bytes w32 (take 4 bytes)) else Err place
-  image ← from_place (place + 4) (page_at (take 1024 (drop 4 bytes)))
+  image ← from_place (place + 4) (page_at (take PAGE_SIZE (drop 4 bytes)))
   if image.number == number then Ok image else Err (place + 8)
 
 -- so many pages with their numbers, each number at least `low` and above the one before it
@@ -55,22 +45,22 @@ unfoldable pub images_at : ℕ → ℕ → ℕ → ℕ → List ℕ → Result (
 images_at pages place low zero bytes = Ok []
 images_at pages place low (suc n) bytes = do
   image ← image_at pages place low bytes
-  others ← images_at pages (place + image_size) (image.number + 1) n (drop image_size bytes)
+  others ← images_at pages (place + IMAGE_SIZE) (image.number + 1) n (drop IMAGE_SIZE bytes)
   Ok (image ∷ others)
 
 -- the kind: a commit only where the number of commits may rise
 unfoldable pub kind_at : ℕ → ℕ → ℕ → Result Kind ℕ
 kind_at place done byte =
-    if byte == 1 then (if nat_lt done most_commits then Ok Commit else Err place) else (if byte == 2 then Ok Sweep else Err place)
+    if byte == 1 then (if nat_lt done MOST_COUNTED then Ok Commit else Err place) else (if byte == 2 then Ok Sweep else Err place)
 
 -- the counts that a kind may have
 abbrev pub is_count : Kind → ℕ → Bool
-is_count Commit count = nat_le count most_images
+is_count Commit count = nat_le count MOST_WRITTEN
 is_count Sweep count = count == 1
 
 -- the count, where its four bytes, so many pages and the next gate are among the `left` bytes from the kind on
 abbrev pub count_at : ℕ → Kind → ℕ → ℕ → Result ℕ ℕ
-count_at place kind left count = if nat_le 5 left && (is_count kind count && nat_le (frame_size + image_size * count) left) then Ok count else Err place
+count_at place kind left count = if nat_le 5 left && (is_count kind count && nat_le (FRAME_SIZE + IMAGE_SIZE * count) left) then Ok count else Err place
 
 -- a record: kind, count, pages (past the area's end there is no kind)
 unfoldable pub record_at : ℕ → ℕ → ℕ → List ℕ → Result RecordParts ℕ
@@ -84,7 +74,7 @@ record_at pages place done bytes = do
 unfoldable pub grammar : ℕ → Grammar RecordParts
 grammar pages = record {
   at = record_at pages;
-  size = λ r. 5 + image_size * length r.images;
+  size = λ r. 5 + IMAGE_SIZE * length r.images;
   weight = λ r. commits_of r.kind;
 }
 
@@ -107,7 +97,7 @@ spelled_with_gate r = record_bytes r ++ 0 ∷ []
 
 -- a page's spelling has 1,024 bytes, which are read as that page
 pub record ReadsBack (p : PageParts) : Type 0 where
-  pub long : length (page_bytes p) ≡ 1024
+  pub long : length (page_bytes p) ≡ PAGE_SIZE
   pub again : page_at (page_bytes p) ≡ Ok p
 
 -- a record with one page more
@@ -118,9 +108,9 @@ with_image image r = record r { images = r.images ++ image ∷ [] }
 abbrev pub numbers_of : List PageParts → List ℕ
 numbers_of images = map (λ p. p.number) images
 
--- what each staged record keeps: pages of the store, ascending, at most 64, and at most one of a sweep
+-- what each staged record keeps: pages of the store, ascending, few enough, and at most one of a sweep
 pub record IsRecordOf (pages : ℕ) (r : RecordParts) : Type 0 where
-  pub few : length r.images ≤ most_images
+  pub few : length r.images ≤ MOST_WRITTEN
   pub sweep : r.kind ≡ Sweep → length r.images ≤ 1
   pub ascending : IsStrictlyIncreasing (numbers_of r.images)
   pub below : AllByRecursion (λ p. p.number < pages) r.images

@@ -2,7 +2,7 @@
 ghost use Rattle.std.specs.Prelude.{◌≡◌, ◌≤◌, ◌<◌, ◌+◌, ◌*◌, ◌^◌, Ok, Err, length, take, drop, IfOk};
 ghost use Rattle.std.specs.Int.{w32, from_be_bytes};
 ghost use Rattle.page_image.specs.Fields.{page_at};
-ghost use Rattle.redo_journal.specs.Area.{most_commits, base_in};
+ghost use Rattle.redo_journal.specs.Area.{base_in};
 ghost use Rattle.redo_journal.specs.Judging.{Gives};
 ghost use Rattle.redo_journal.specs.Record.{is_count, kind_at, count_at, image_at};
 ghost use Rattle.redo_journal.specs.Results.{from_place};
@@ -10,22 +10,9 @@ ghost use Rattle.redo_journal.specs.declared.kind.Kind.TheVariants.{Commit};
 
 use crate::faults::AreaFault;
 use crate::kind::Kind;
+use crate::sizes::{FRAME_SIZE, IMAGE_SIZE, PAGE_SIZE};
+use object_graph::{MOST_COUNTED, MOST_WRITTEN};
 use page_image::Page;
-
-/// The most commits that a store counts.
-pub(crate) const MOST_COMMITS: u64 = 1 << 48;
-
-/// The most pages of a record.
-pub(crate) const MOST_IMAGES: u32 = 64;
-
-/// The bytes of a page's image.
-pub(crate) const PAGE_SIZE: usize = 1024;
-
-/// The bytes of a page in a record: its number and its image.
-pub(crate) const IMAGE_SIZE: usize = 1028;
-
-/// The bytes of a record around its pages: kind, count and the gate behind it.
-pub(crate) const FRAME_SIZE: usize = 6;
 
 /// The base of an area.
 pub(crate) fn base_of(bytes: &[u8]) -> u64
@@ -48,10 +35,10 @@ fn u32_of(bytes: &[u8]) -> u32
 #[tactic(auto, unfolding(crate::specs::Record::kind_at))]
 pub(crate) fn kind_of(byte: u8, place: u64, done: u64) -> Result<Kind, AreaFault>
     ensures value { Gives (kind_at place done byte) result }
-    ensures unspent { IfOk result (λ kind. kind ≡ Commit → done < most_commits) }
+    ensures unspent { IfOk result (λ kind. kind ≡ Commit → done < MOST_COUNTED) }
 {
     match byte {
-        1 if done < MOST_COMMITS => Ok(Kind::Commit),
+        1 if done < MOST_COUNTED => Ok(Kind::Commit),
         2 => Ok(Kind::Sweep),
         _ => Err(AreaFault::BadRecord { at: place }),
     }
@@ -62,7 +49,7 @@ fn is_right(kind: Kind, count: u32) -> bool
     ensures { result ≡ is_count kind count }
 {
     match kind {
-        Kind::Commit => count <= MOST_IMAGES,
+        Kind::Commit => count as usize <= MOST_WRITTEN,
         Kind::Sweep => count == 1,
     }
 }
@@ -71,8 +58,8 @@ fn is_right(kind: Kind, count: u32) -> bool
 pub(crate) fn count_of(bytes: &[u8], kind: Kind, place: u64) -> Result<u32, AreaFault>
     requires { 1 ≤ length bytes.now }
     ensures value { Gives (count_at place kind (length bytes.now) (from_be_bytes w32 (take 4 (drop 1 bytes.now)))) result }
-    ensures room { IfOk result (λ count. 6 + 1028 * count ≤ length bytes.now) }
-    ensures few { IfOk result (λ count. count ≤ 64) }
+    ensures room { IfOk result (λ count. FRAME_SIZE + IMAGE_SIZE * count ≤ length bytes.now) }
+    ensures few { IfOk result (λ count. count ≤ MOST_WRITTEN) }
 {
     if bytes.len() < 5 {
         return Err(AreaFault::BadRecord { at: place });
@@ -87,9 +74,9 @@ pub(crate) fn count_of(bytes: &[u8], kind: Kind, place: u64) -> Result<u32, Area
 
 /// The page that these bytes spell.
 fn page_of(bytes: &[u8], place: u64) -> Result<Page, AreaFault>
-    requires long { 1024 ≤ length bytes.now }
+    requires long { PAGE_SIZE ≤ length bytes.now }
     requires small { place < 2 ^ 41 }
-    ensures { Gives (from_place place (page_at (take 1024 bytes.now))) result }
+    ensures { Gives (from_place place (page_at (take PAGE_SIZE bytes.now))) result }
 {
     let mut image = [0; PAGE_SIZE];
     image.copy_from_slice(bytes.split_at(PAGE_SIZE).0);
@@ -103,7 +90,7 @@ fn page_of(bytes: &[u8], place: u64) -> Result<Page, AreaFault>
 
 /// A page with its number, which is at least `low`.
 pub(crate) fn image_of(bytes: &[u8], pages: u32, place: u64, low: u32) -> Result<Page, AreaFault>
-    requires long { 1028 ≤ length bytes.now }
+    requires long { IMAGE_SIZE ≤ length bytes.now }
     requires small { place < 2 ^ 40 }
     ensures value { Gives (image_at pages place low bytes.now) result }
     ensures below { IfOk result (λ page. page.number < pages) }

@@ -1,28 +1,27 @@
 //! The journal of a store.
 ghost use Rattle.std.specs.Prelude.{◌≡◌, ◌≤◌, ◌<◌, ◌+◌, ◌↔◌, List, ℕ, Some, None, IfSome, IsSomeAnd, IfOk, OnOk, OnErr, IsErrOf, Err, length, vec_capacity};
-ghost use Rattle.disk_trait.specs.Causes.{Rose, SameTold};
-ghost use Rattle.disk_trait.specs.Disk.{Only, SameImages, IsSynced, LeavesOnly};
-ghost use Rattle.redo_journal.specs.Area.{area_start, area_of, read_area, most_commits};
+ghost use Rattle.disk_trait.specs.Causes.{Rose};
+ghost use Rattle.disk_trait.specs.Disk.{Only, IsSynced};
+ghost use Rattle.disk_trait.specs.DiskFacts.{LeavesOnly, OnlyReads, KeepsDisk};
+ghost use Rattle.redo_journal.specs.Area.{area_start, area_of, read_area};
 ghost use Rattle.redo_journal.specs.Homes.{store_size};
 ghost use Rattle.redo_journal.specs.Journals.{JournalParts, HoldsFor, IsOn, need_of, left_of, begun, with_page, appended, IsAppendedOrNot, IsAppended};
 ghost use Rattle.redo_journal.specs.Record.{RecordParts, IsRecordOf, grammar, with_image};
 ghost use Rattle.redo_journal.specs.Replays.{IsReplay, IsReplayFor};
 ghost use Rattle.redo_journal.specs.declared.kind.Kind.TheVariants.{Commit, Sweep};
 
-use crate::area::{AREA_SIZE, read_area, start_of};
+use crate::area::{read_area, start_of};
 use crate::faults::{AppendFault, AreaFault};
-use crate::fields::{FRAME_SIZE, IMAGE_SIZE, MOST_IMAGES};
 use crate::gated::write_record;
 use crate::kind::Kind;
 use crate::replay::Replay;
 use crate::scan::{counted, scan};
+use crate::sizes::{AREA_SIZE, FRAME_SIZE, IMAGE_SIZE, LONGEST_RECORD};
 use disk_trait::Disk;
+use object_graph::{MOST_COUNTED, MOST_WRITTEN};
 use page_image::Page;
 use std::alloc::{AllocError, Global};
 use std::marker::Model;
-
-/// The bytes of the longest record with its gate.
-const ROOM: usize = FRAME_SIZE + IMAGE_SIZE * MOST_IMAGES as usize;
 
 /// The journal of a store: which of the two areas is its own, what that area holds, and the record
 /// that is to be appended next. All room is made by `open_area`; no other call takes memory
@@ -44,23 +43,25 @@ pub struct Journal {
 
 impl Model for Journal {
     ghost use Rattle.std.specs.Prelude.{◌≡◌, ◌≤◌, length, vec_capacity};
+    ghost use Rattle.object_graph.specs.declared.limits.TheConstants.{MOST_WRITTEN};
     ghost use Rattle.redo_journal.specs.Journals.{JournalParts, IsJournal, staged_of};
+    ghost use Rattle.redo_journal.specs.declared.sizes.TheConstants.{LONGEST_RECORD};
 
     ghost Value = { JournalParts };
 
     ghost view = { λ j. record { area = j.area; pages = j.pages; base = j.base; commits = j.commits; end = j.end; staged = staged_of j.kind j.images.items } };
 
     ghost invariant = { λ j. IsJournal (record { area = j.area; pages = j.pages; base = j.base; commits = j.commits; end = j.end; staged = staged_of j.kind j.images.items })
-        × (64 ≤ vec_capacity j.images) × (length j.buffer.items ≡ 65798) };
+        × (MOST_WRITTEN ≤ vec_capacity j.images) × (length j.buffer.items ≡ LONGEST_RECORD) };
 }
 
 /// Room for a record: its images and its bytes.
 fn room(alloc: Global) -> Result<(Vec<Page>, Vec<u8>), AllocError>
-    ensures images { IfOk result (λ x. 64 ≤ vec_capacity x.0) }
-    ensures bytes { IfOk result (λ x. length x.1.items ≡ 65798) }
+    ensures images { IfOk result (λ x. MOST_WRITTEN ≤ vec_capacity x.0) }
+    ensures bytes { IfOk result (λ x. length x.1.items ≡ LONGEST_RECORD) }
 {
-    let images = Vec::with_capacity(alloc, MOST_IMAGES as usize)?;
-    let bytes = vec![in alloc; 0u8; ROOM]?;
+    let images = Vec::with_capacity(alloc, MOST_WRITTEN)?;
+    let bytes = vec![in alloc; 0u8; LONGEST_RECORD]?;
     Ok((images, bytes))
 }
 
@@ -83,14 +84,15 @@ impl Journal {
         ensures found { IfOk result (λ x. IfSome (D.content disk.old) (λ c. (records : List RecordParts) × HoldsFor x.0 records c × IsReplay records x.1)) }
         ensures bad { (at : ℕ) → result ≡ Err (AreaFault.BadRecord at) → IfSome (D.content disk.old) (λ c. read_area (grammar pages) (area_start area) (area_of area c) ≡ Err at) }
 
+        // A fault is told as one, and never as something else.
         ensures fault { IsErrOf result AreaFault.DiskFault → Rose (D.fault_count disk.old) (D.fault_count disk.new) }
+        ensures calm { OnOk result (D.fault_count disk.new ≡ D.fault_count disk.old) }
+        ensures calm_bad { (at : ℕ) → result ≡ Err (AreaFault.BadRecord at) → D.fault_count disk.new ≡ D.fault_count disk.old }
+        ensures lack { result ≡ Err AreaFault.Memory → D.fault_count disk.new ≡ D.fault_count disk.old }
         ensures later { D.fault_count disk.old ≤ D.fault_count disk.new }
 
         // The disk stays as it is.
-        ensures content { D.content disk.new ≡ D.content disk.old }
-        ensures images { SameImages (D.may_leave disk.old) (D.may_leave disk.new) }
-        ensures size { D.size disk.new ≡ D.size disk.old }
-        ensures any_moment { LeavesOnly D.moment D.left_since disk.old disk.new (D.may_leave disk.old) }
+        ensures reads { OnlyReads D.Disk disk.old disk.new }
     {
         let bytes = read_area(alloc, disk, area)?;
         let found = scan(alloc, &bytes, pages, start_of(area))?;
@@ -135,7 +137,7 @@ impl Journal {
     /// The number of counted commits of the area, without the base.
     pub fn commits(&self) -> u64
         ensures value { result ≡ self.now.commits }
-        ensures bound { self.now.base + self.now.commits ≤ most_commits }
+        ensures bound { self.now.base + self.now.commits ≤ MOST_COUNTED }
     {
         self.commits
     }
@@ -148,7 +150,8 @@ impl Journal {
         self.kind = Some(kind);
     }
 
-    /// Adds a page to the staged record, whose pages ascend: at most 64, and at most one of a sweep.
+    /// Adds a page to the staged record, whose pages ascend: at most as many as a transaction may
+    /// write, and at most one of a sweep.
     pub fn stage_page(&mut self, image: &Page)
         requires { IsSomeAnd self.old.staged (λ r. IsRecordOf self.old.pages (with_image image.now r)) }
         ensures { self.new ≡ with_page image.now self.old }
@@ -178,14 +181,14 @@ impl Journal {
     /// must be opened again.
     pub fn append<D: Disk>(&mut self, disk: &mut D) -> Result<(), AppendFault>
         requires staged { IsSomeAnd self.old.staged (λ r. r.kind ≡ Sweep → length r.images ≡ 1) }
-        requires unspent { IfSome self.old.staged (λ r. r.kind ≡ Commit → self.old.base + self.old.commits < most_commits) }
+        requires unspent { IfSome self.old.staged (λ r. r.kind ≡ Commit → self.old.base + self.old.commits < MOST_COUNTED) }
         requires long { store_size self.old.pages ≤ D.size disk.old }
         requires own { IfSome (D.content disk.old) (IsOn self.old) }
 
         // After a crash at any moment the records are those from before, with the new one or without.
         ensures any_moment { (c : List ℕ) (records : List RecordParts) (new : RecordParts)
             → D.content disk.old ≡ Some c → Only c (D.may_leave disk.old) → HoldsFor self.old records c → self.old.staged ≡ Some new
-            → LeavesOnly D.moment D.left_since disk.old disk.new (IsAppendedOrNot self.old records new c) }
+            → LeavesOnly D.Disk disk.old disk.new (IsAppendedOrNot self.old records new c) }
 
         // From `Ok` on each crash leaves the new one.
         ensures acknowledged { OnOk result ((c : List ℕ) (records : List RecordParts) (new : RecordParts)
@@ -193,6 +196,7 @@ impl Journal {
             → IsSomeAnd (D.content disk.new) (IsAppended self.new records new c)) }
         ensures synced { OnOk result (IsSynced (D.content disk.new) (D.may_leave disk.new)) }
         ensures appended { OnOk result (IfSome self.old.staged (λ r. self.new ≡ appended r self.old)) }
+        ensures calm { OnOk result (D.fault_count disk.new ≡ D.fault_count disk.old) }
 
         // It is refused for want of room exactly where the record is too long, without a call of the disk.
         ensures no_room { (need left : ℕ) → (result ≡ Err (AppendFault.NoRoom need left)) ↔ ((need ≡ need_of self.old.staged) × (left ≡ left_of self.old) × (left < need)) }
@@ -200,9 +204,7 @@ impl Journal {
         ensures unchanged { OnErr result (self.new ≡ self.old) }
 
         ensures fault { IsErrOf result AppendFault.DiskFault → Rose (D.fault_count disk.old) (D.fault_count disk.new) }
-        ensures later { D.fault_count disk.old ≤ D.fault_count disk.new }
-        ensures told { SameTold (D.content disk.old) (D.content disk.new) }
-        ensures size { D.size disk.new ≡ D.size disk.old }
+        ensures keeps { KeepsDisk D.Disk disk.old disk.new }
     {
         let need = self.need();
         let left = self.left();

@@ -12,6 +12,7 @@ mod journal;
 mod kind;
 mod replay;
 mod scan;
+mod sizes;
 mod spelling;
 #[cfg(test)]
 mod tests;
@@ -23,3 +24,6 @@ pub use faults::{AppendFault, AreaFault};
 pub use journal::Journal;
 pub use kind::Kind;
 pub use replay::Replay;
+pub use sizes::{
+    AREA_SIZE, FRAME_SIZE, HEAD_SIZE, HOMES_START, IMAGE_SIZE, LONGEST_RECORD, PAGE_SIZE,
+};

@@ -1,7 +1,7 @@
 //! Reading an area's records.
 ghost use Rattle.std.specs.Prelude.{◌≡◌, ◌≤◌, ◌<◌, ◌+◌, ◌*◌, ◌^◌, List, Ok, length, IfOk, MatchResult, []};
 ghost use Rattle.page_image.specs.Pages.{PageParts};
-ghost use Rattle.redo_journal.specs.Area.{read_area, most_commits, area_size, first_gate};
+ghost use Rattle.redo_journal.specs.Area.{read_area, first_gate};
 ghost use Rattle.redo_journal.specs.Judging.{IsFaultIn};
 ghost use Rattle.redo_journal.specs.Record.{RecordParts, images_at, record_at, grammar, commits_in, commits_of};
 ghost use Rattle.redo_journal.specs.Replays.{AreLatest, IsLaidOver, images_in};
@@ -9,9 +9,11 @@ ghost use Rattle.redo_journal.specs.Walk.{taken};
 ghost use Rattle.redo_journal.specs.declared.kind.Kind.TheVariants.{Commit};
 
 use crate::faults::AreaFault;
-use crate::fields::{FRAME_SIZE, IMAGE_SIZE, MOST_COMMITS, base_of, count_of, image_of, kind_of};
+use crate::fields::{base_of, count_of, image_of, kind_of};
 use crate::kind::Kind;
 use crate::replay::{Replay, lay};
+use crate::sizes::{AREA_SIZE, FRAME_SIZE, IMAGE_SIZE};
+use object_graph::{MOST_COUNTED, MOST_WRITTEN};
 use page_image::Page;
 use std::alloc::Global;
 
@@ -23,8 +25,8 @@ fn images_of(
     count: u32,
     latest: &mut Vec<Page>,
 ) -> Result<(), AreaFault>
-    requires long { 1028 * count ≤ length bytes.now }
-    requires few { count ≤ 64 }
+    requires long { IMAGE_SIZE * count ≤ length bytes.now }
+    requires few { count ≤ MOST_WRITTEN }
     requires small { place < 2 ^ 39 }
     requires kept { AreLatest pages latest.old.items }
     ensures read { MatchResult result
@@ -70,8 +72,8 @@ fn record_of(
         (λ head. (images : List PageParts) × (record_at pages place done bytes.now ≡ Ok (record { kind = head.kind; images = images })) × (length images ≡ head.count)
         × IsLaidOver images latest.old.items latest.new.items × AreLatest pages latest.new.items)
         (λ fault. IsFaultIn (record_at pages place done bytes.now) fault) }
-    ensures room { IfOk result (λ head. 6 + 1028 * head.count ≤ length bytes.now) }
-    ensures unspent { IfOk result (λ head. head.kind ≡ Commit → done < most_commits) }
+    ensures room { IfOk result (λ head. FRAME_SIZE + IMAGE_SIZE * head.count ≤ length bytes.now) }
+    ensures unspent { IfOk result (λ head. head.kind ≡ Commit → done < MOST_COUNTED) }
 {
     if bytes.is_empty() {
         return Err(AreaFault::BadRecord { at: place });
@@ -106,10 +108,10 @@ pub(crate) fn scan(
     pages: u32,
     start: u64,
 ) -> Result<Scanned, AreaFault>
-    requires whole { length bytes.now ≡ area_size }
+    requires whole { length bytes.now ≡ AREA_SIZE }
     requires small { start < 2 ^ 32 }
-    ensures counted { IfOk result (λ found. found.replay.base + found.replay.commits ≤ most_commits) }
-    ensures within { IfOk result (λ found. found.end < area_size) }
+    ensures counted { IfOk result (λ found. found.replay.base + found.replay.commits ≤ MOST_COUNTED) }
+    ensures within { IfOk result (λ found. found.end < AREA_SIZE) }
     ensures kept { IfOk result (λ found. AreLatest pages found.replay.images.items) }
     ensures read { MatchResult result
         (λ found. (records : List RecordParts)
@@ -119,7 +121,7 @@ pub(crate) fn scan(
         (λ fault. IsFaultIn (read_area (grammar pages) start bytes.now) fault) }
 {
     let base = base_of(bytes);
-    if base > MOST_COMMITS {
+    if base > MOST_COUNTED {
         return Err(AreaFault::BadRecord { at: start });
     }
     let mut end = 8;

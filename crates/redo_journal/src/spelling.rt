@@ -4,8 +4,9 @@ ghost use Rattle.std.specs.List.{AllByRecursion};
 ghost use Rattle.std.specs.Int.{w32, to_be_bytes};
 ghost use Rattle.redo_journal.specs.Record.{ReadsBack, image_bytes, kind_byte, spelled_with_gate};
 
-use crate::fields::{IMAGE_SIZE, PAGE_SIZE};
 use crate::kind::Kind;
+use crate::sizes::{FRAME_SIZE, IMAGE_SIZE};
+use object_graph::MOST_WRITTEN;
 use page_image::Page;
 
 /// Writes bytes at a place: what is before it stays.
@@ -19,15 +20,13 @@ fn put(out: &mut [u8], at: usize, bytes: &[u8])
 
 /// Writes a page with its number.
 fn put_image(out: &mut [u8], at: usize, image: &Page)
-    requires { at + 1028 ≤ length out.old }
-    ensures front { take (at + 1028) out.new ≡ take at out.old ++ image_bytes image.now }
+    requires { at + IMAGE_SIZE ≤ length out.old }
+    ensures front { take (at + IMAGE_SIZE) out.new ≡ take at out.old ++ image_bytes image.now }
     ensures long { length out.new ≡ length out.old }
     ensures again { ReadsBack image.now }
 {
-    let mut bytes = [0; PAGE_SIZE];
-    image.encode(&mut bytes);
     put(out, at, &image.number().to_be_bytes());
-    put(out, at + 4, &bytes);
+    put(out, at + 4, image.bytes());
 }
 
 /// Writes what stands before the pages.
@@ -46,9 +45,9 @@ fn put_head(out: &mut [u8], kind: Kind, count: u32)
 
 /// Writes the record with a closed gate behind it.
 pub(crate) fn put_record(out: &mut [u8], kind: Kind, images: &[Page])
-    requires long { 6 + 1028 * length images.now ≤ length out.old }
-    requires few { length images.now ≤ 64 }
-    ensures front { take (6 + 1028 * length images.now) out.new ≡ spelled_with_gate (record { kind = kind; images = images.now }) }
+    requires long { FRAME_SIZE + IMAGE_SIZE * length images.now ≤ length out.old }
+    requires few { length images.now ≤ MOST_WRITTEN }
+    ensures front { take (FRAME_SIZE + IMAGE_SIZE * length images.now) out.new ≡ spelled_with_gate (record { kind = kind; images = images.now }) }
     ensures long { length out.new ≡ length out.old }
     ensures again { AllByRecursion ReadsBack images.now }
 {

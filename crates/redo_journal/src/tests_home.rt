@@ -11,8 +11,6 @@ use std::test::Fail;
 /// The bytes of a store of two pages, and where the homes begin in it.
 const TWO_PAGES: u64 = 527_360;
 
-const HOMES: u64 = 525_312;
-
 /// What a home holds: zeros, as nothing was written there, its page without or with an object, or
 /// other bytes.
 #[derive(Clone, Copy, Debug, PartialEq, Eq)]
@@ -28,7 +26,7 @@ use Home::{Empty, Object, Torn, Zeros};
 fn home_at<D: Disk>(disk: &mut D, page: u64) -> Result<Home, Fail> {
     let mut image = [0; 1024];
     if disk.len() >= TWO_PAGES && page < 2 {
-        disk.read_at(HOMES + 1024 * page, &mut image)?;
+        disk.read_at(HOMES_START + 1024 * page, &mut image)?;
     }
     match Page::decode(&image) {
         Ok(page) if page.object(0).is_some() => Ok(Object),

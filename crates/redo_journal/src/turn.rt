@@ -1,8 +1,9 @@
 //! Turning over to the other area.
 ghost use Rattle.std.specs.Prelude.{◌≡◌, ◌≤◌, ◌+◌, ◌-◌, List, [], ℕ, Some, IfSome, IsSomeAnd, OnOk, OnErr, length, option_map};
-ghost use Rattle.disk_trait.specs.Causes.{HasCause};
-ghost use Rattle.disk_trait.specs.Disk.{written, Torn, Only, IsSynced, TornContent, LeavesOnly};
-ghost use Rattle.redo_journal.specs.Area.{area_start, most_commits};
+ghost use Rattle.disk_trait.specs.Causes.{Rose};
+ghost use Rattle.disk_trait.specs.Disk.{written, Torn, Only, IsSynced, TornContent};
+ghost use Rattle.disk_trait.specs.DiskFacts.{LeavesOnly, KeepsDisk};
+ghost use Rattle.redo_journal.specs.Area.{area_start};
 ghost use Rattle.redo_journal.specs.Homes.{store_size};
 ghost use Rattle.redo_journal.specs.Journals.{HoldsFor, IsOn};
 ghost use Rattle.redo_journal.specs.Sending.{empty_area, turned_over};
@@ -10,6 +11,7 @@ ghost use Rattle.redo_journal.specs.Sending.{empty_area, turned_over};
 use crate::area::start_of;
 use crate::journal::Journal;
 use disk_trait::{Disk, Failed};
+use object_graph::MOST_COUNTED;
 
 /// The bytes of a base and a closed gate.
 fn area_bytes(base: u64) -> [u8; 9]
@@ -24,12 +26,13 @@ fn area_bytes(base: u64) -> [u8; 9]
 fn write_empty<D: Disk>(disk: &mut D, at: u64, base: u64) -> Result<(), Failed>
     requires within { at + 9 ≤ D.size disk.old }
     ensures any_moment { (c : List ℕ) → D.content disk.old ≡ Some c → Only c (D.may_leave disk.old)
-        → LeavesOnly D.moment D.left_since disk.old disk.new (Torn at 9 c) }
+        → LeavesOnly D.Disk disk.old disk.new (Torn at 9 c) }
     ensures written { OnOk result (D.content disk.new ≡ option_map (written at (empty_area base)) (D.content disk.old)) }
     ensures failed { OnErr result (TornContent at 9 (D.content disk.old) (D.content disk.new)) }
     ensures synced { OnOk result (IsSynced (D.content disk.new) (D.may_leave disk.new)) }
-    ensures size { D.size disk.new ≡ D.size disk.old }
-    ensures cause { HasCause (D.fault_count disk.old) (D.fault_count disk.new) result }
+    ensures keeps { KeepsDisk D.Disk disk.old disk.new }
+    ensures fault { OnErr result (Rose (D.fault_count disk.old) (D.fault_count disk.new)) }
+    ensures calm { OnOk result (D.fault_count disk.new ≡ D.fault_count disk.old) }
 {
     disk.write_at(at, &area_bytes(base))?;
     disk.sync()
@@ -40,7 +43,7 @@ impl Journal {
     /// checkpoint (FORMATS.md, "Journal"). The staged record stays. After `Failed` the journal must
     /// be opened again.
     pub fn turn_over<D: Disk>(&mut self, disk: &mut D, commits: u64) -> Result<(), Failed>
-        requires few { commits ≤ most_commits }
+        requires few { commits ≤ MOST_COUNTED }
         requires long { store_size self.old.pages ≤ D.size disk.old }
         requires own { IfSome (D.content disk.old) (IsOn self.old) }
 
@@ -53,11 +56,12 @@ impl Journal {
         ensures written { OnOk result (D.content disk.new ≡ option_map (written (area_start (1 - self.old.area)) (empty_area commits)) (D.content disk.old)) }
         ensures failed { OnErr result (TornContent (area_start (1 - self.old.area)) 9 (D.content disk.old) (D.content disk.new)) }
         ensures any_moment { (c : List ℕ) → D.content disk.old ≡ Some c → Only c (D.may_leave disk.old)
-            → LeavesOnly D.moment D.left_since disk.old disk.new (Torn (area_start (1 - self.old.area)) 9 c) }
+            → LeavesOnly D.Disk disk.old disk.new (Torn (area_start (1 - self.old.area)) 9 c) }
 
         ensures unchanged { OnErr result (self.new ≡ self.old) }
-        ensures fault { HasCause (D.fault_count disk.old) (D.fault_count disk.new) result }
-        ensures size { D.size disk.new ≡ D.size disk.old }
+        ensures keeps { KeepsDisk D.Disk disk.old disk.new }
+        ensures fault { OnErr result (Rose (D.fault_count disk.old) (D.fault_count disk.new)) }
+        ensures calm { OnOk result (D.fault_count disk.new ≡ D.fault_count disk.old) }
     {
         let other = 1 - self.area;
         write_empty(disk, start_of(other), commits)?;

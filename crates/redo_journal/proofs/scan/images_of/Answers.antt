@@ -9,6 +9,7 @@ use Rattle.redo_journal.proofs.ImageSteps.{images_more, images_fault, images_end
 use Rattle.redo_journal.proofs.Laying.{laid_nothing, laid_more}
 use Rattle.redo_journal.proofs.WalkLaws.{with_front-nil}
 use Rattle.redo_journal.proofs.scan.images_of.Goals as goal
+use Rattle.redo_journal.specs.declared.sizes.TheConstants.{IMAGE_SIZE}
 
 pub loop-left-init : goal.loop-left-init
 loop-left-init c = record {
@@ -30,8 +31,8 @@ loop-left-preserved c =
     record {
       front = i.front ++ image ∷ [];
       value =
-          ap (λ (x : List ℕ). with_front (i.front ++ image ∷ []) (images_at c.args.pages (l.at + 1028) (c.number-low.result + 1) (l.left - 1) x)) c.split_at.ensures.back
-          ∙ ap (λ (low : ℕ). with_front (i.front ++ image ∷ []) (images_at c.args.pages (l.at + 1028) low (l.left - 1) (drop 1028 l.rest.now))) low_is
+          ap (λ (x : List ℕ). with_front (i.front ++ image ∷ []) (images_at c.args.pages (l.at + IMAGE_SIZE) (c.number-low.result + 1) (l.left - 1) x)) c.split_at.ensures.back
+          ∙ ap (λ (low : ℕ). with_front (i.front ++ image ∷ []) (images_at c.args.pages (l.at + IMAGE_SIZE) low (l.left - 1) (drop IMAGE_SIZE l.rest.now))) low_is
           ∙ images_more i.front c.args.pages l.at l.low l.left l.rest.now image c.loop-left-test.true c.in_ok-image.ensures.value
           ∙ i.value;
       long = omega (arith, i.long, c.split_at.ensures.back_len, c.loop-left-test.true);

@@ -4,14 +4,16 @@ use Rattle.redo_journal.specs.Walk.{with_front}
 use Rattle.redo_journal.specs.Record.{images_at}
 use Rattle.redo_journal.specs.Replays.{AreLatest, IsLaidOver}
 use Rattle.redo_journal.proofs.scan.images_of.Given as goal
+use Rattle.redo_journal.specs.declared.sizes.TheConstants.{IMAGE_SIZE}
+use Rattle.object_graph.specs.declared.limits.TheConstants.{MOST_WRITTEN}
 
 abbrev pub invariant-loop-left : goal.invariant-loop-left
 invariant-loop-left l = record {
   front : List PageParts;
   value : with_front front (images_at l.pages l.at l.low l.left l.rest) ≡ images_at l.pages l.fn.place 0 l.fn.count l.fn.bytes;
-  long : 1028 * l.left ≤ length l.rest;
-  few : l.left ≤ 64;
-  at_is : l.at + 1028 * l.left ≡ l.fn.place + 1028 * l.fn.count;
+  long : IMAGE_SIZE * l.left ≤ length l.rest;
+  few : l.left ≤ MOST_WRITTEN;
+  at_is : l.at + IMAGE_SIZE * l.left ≡ l.fn.place + IMAGE_SIZE * l.fn.count;
   laid : IsLaidOver front l.fn.latest.items l.latest.items;
   kept : AreLatest l.pages l.latest.items;
 }

@@ -15,12 +15,14 @@ use Rattle.redo_journal.proofs.Laying.{laid_nothing, laid_more}
 use Rattle.redo_journal.proofs.ScanSteps.{scan_more, scan_fault, scan_closed, area_walk, area_fault, walk_drop}
 use Rattle.redo_journal.proofs.WalkLaws.{with_front-nil}
 use Rattle.redo_journal.proofs.scan.scan.Goals as goal
+use Rattle.redo_journal.specs.declared.sizes.TheConstants.{AREA_SIZE, IMAGE_SIZE, FRAME_SIZE}
+use Rattle.object_graph.specs.declared.limits.TheConstants.{MOST_COUNTED}
 
 at_most_one : (kind : Kind) → commits_of kind ≤ 1
 at_most_one Commit = omega arith
 at_most_one Sweep = omega arith
 
-room_for : (base commits more : ℕ) (kind : Kind) → base + commits ≤ 281474976710656 → more ≡ commits_of kind → (kind ≡ Commit → base + commits < 281474976710656) → base + (commits + more) ≤ 281474976710656
+room_for : (base commits more : ℕ) (kind : Kind) → base + commits ≤ MOST_COUNTED → more ≡ commits_of kind → (kind ≡ Commit → base + commits < MOST_COUNTED) → base + (commits + more) ≤ MOST_COUNTED
 room_for base commits more Commit le is h = omega (arith, is, h refl)
 room_for base commits more Sweep le is h = omega (arith, is)
 
@@ -43,7 +45,7 @@ loop-end-init c =
       commits_are = refl;
       within = omega arith;
       few = omega arith;
-      unspent = omega (arith, c.if-base-gt-MOST_COMMITS.false);
+      unspent = omega (arith, c.if-base-gt-MOST_COUNTED.false);
       laid = subst (λ (xs : List PageParts). IsLaidOver [] [] xs) (sym c.new-images.ensures.items) (laid_nothing []);
       kept = none_latest c.args.pages c.new-images.result.items c.new-images.ensures.items;
     }
@@ -61,12 +63,12 @@ loop-end-preserved c =
     let here : g.at (c.args.start + l.end + 1) (base + l.commits) (drop (l.end + 1) c.args.bytes.now) ≡ Ok r =
     grammar-at c.args.pages (c.args.start + l.end + 1) (base + l.commits) (drop (l.end + 1) c.args.bytes.now)
     ∙ ap (λ (x : List ℕ). record_at c.args.pages (c.args.start + l.end + 1) (base + l.commits) x) (sym c.split_at.ensures.back) ∙ read.1 in
-    let size_is : 6 + 1028 * head.count ≡ g.size r + 1 = omega (arith, grammar-size c.args.pages r, read.2) in
+    let size_is : FRAME_SIZE + IMAGE_SIZE * head.count ≡ g.size r + 1 = omega (arith, grammar-size c.args.pages r, read.2) in
     let weight_is : c.counted-commits.result ≡ g.weight r = c.counted-commits.ensures ∙ sym (grammar-weight c.args.pages r) in
-    let room : l.end + (6 + 1028 * head.count) < 262144 = omega (arith, c.in_ok-head.ensures.room, ap length c.split_at.ensures.back, length-drop (l.end + 1) c.args.bytes.now, c.requires.whole) in
+    let room : l.end + (FRAME_SIZE + IMAGE_SIZE * head.count) < AREA_SIZE = omega (arith, c.in_ok-head.ensures.room, ap length c.split_at.ensures.back, length-drop (l.end + 1) c.args.bytes.now, c.requires.whole) in
     record {
       front = i.front ++ r ∷ [];
-      value = scan_more g c.args.start base l.end l.commits c.args.bytes.now i.front inside r (6 + 1028 * head.count) c.counted-commits.result c.loop-end-test.true here size_is weight_is (omega (arith, room, c.requires.whole)) ∙ i.value;
+      value = scan_more g c.args.start base l.end l.commits c.args.bytes.now i.front inside r (FRAME_SIZE + IMAGE_SIZE * head.count) c.counted-commits.result c.loop-end-test.true here size_is weight_is (omega (arith, room, c.requires.whole)) ∙ i.value;
       end_is = omega (arith, i.end_is, taken-push g i.front r, size_is);
       commits_are = omega (arith, i.commits_are, sum_by_push (λ (q : RecordParts). commits_of q.kind) i.front r, c.counted-commits.ensures);
       within = room;
@@ -92,7 +94,7 @@ returns-in_err-head-clause-read c =
     let walked = subst (λ (read : Result (List RecordParts) ℕ). IsFaultIn read fault) i.value
     (scan_fault g c.args.start base l.end l.commits c.args.bytes.now i.front fault (omega (arith, i.within, c.requires.whole)) c.loop-end-test.true here) in
     let p = err_from_is_err_and c.from_residual.result c.from_residual.ensures.1 in
-    rw (p.1, p.2) (area_fault g c.args.start base c.args.bytes.now fault c.base_of-base.ensures c.if-base-gt-MOST_COMMITS.false walked)
+    rw (p.1, p.2) (area_fault g c.args.start base c.args.bytes.now fault c.base_of-base.ensures c.if-base-gt-MOST_COUNTED.false walked)
 
 pub returns-clause-read : goal.returns-clause-read
 returns-clause-read c =
@@ -101,7 +103,7 @@ returns-clause-read c =
     let i = l.invariant in
     let base = c.base_of-base.result in (
       i.front,
-      area_walk g c.args.start base c.args.bytes.now (Ok i.front) c.base_of-base.ensures c.if-base-gt-MOST_COMMITS.false
+      area_walk g c.args.start base c.args.bytes.now (Ok i.front) c.base_of-base.ensures c.if-base-gt-MOST_COUNTED.false
           (sym i.value ∙ scan_closed g c.args.start base l.end l.commits c.args.bytes.now i.front (omega (arith, i.within, c.requires.whole)) c.loop-end-test.false),
       i.end_is,
       i.commits_are,

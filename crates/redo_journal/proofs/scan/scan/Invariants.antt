@@ -1,9 +1,11 @@
 use Rattle.std.proofs.Common.{◌≡◌, ◌+◌, ◌-◌, ◌<◌, ◌≤◌, List, [], drop}
-use Rattle.redo_journal.specs.Area.{area_size, first_gate, most_commits}
+use Rattle.redo_journal.specs.Area.{first_gate}
 use Rattle.redo_journal.specs.Walk.{walk, with_front, taken}
 use Rattle.redo_journal.specs.Record.{RecordParts, commits_in, grammar}
 use Rattle.redo_journal.specs.Replays.{AreLatest, IsLaidOver, images_in}
 use Rattle.redo_journal.proofs.scan.scan.Given as goal
+use Rattle.redo_journal.specs.declared.sizes.TheConstants.{AREA_SIZE}
+use Rattle.object_graph.specs.declared.limits.TheConstants.{MOST_COUNTED}
 
 abbrev pub invariant-loop-end : goal.invariant-loop-end
 invariant-loop-end l = record {
@@ -11,12 +13,12 @@ invariant-loop-end l = record {
   value : with_front front (walk (grammar l.pages) (l.start + l.end) (l.base + l.commits) 0 (drop l.end l.bytes)) ≡ walk (grammar l.pages) l.start l.base first_gate l.bytes;
   end_is : l.end ≡ first_gate + taken (grammar l.pages) front;
   commits_are : l.commits ≡ commits_in front;
-  within : l.end < area_size;
+  within : l.end < AREA_SIZE;
   few : l.commits ≤ l.end;
-  unspent : l.base + l.commits ≤ most_commits;
+  unspent : l.base + l.commits ≤ MOST_COUNTED;
   laid : IsLaidOver (images_in front) [] l.images.items;
   kept : AreLatest l.pages l.images.items;
 }
 
 abbrev pub decreases-loop-end : goal.decreases-loop-end
-decreases-loop-end l = 262144 - l.end
+decreases-loop-end l = AREA_SIZE - l.end

@@ -5,6 +5,7 @@ use Rattle.std.proofs.lemmas.List.{flat_map_more, take_more}
 use Rattle.page_image.specs.Pages.{PageParts}
 use Rattle.redo_journal.specs.Record.{ReadsBack, image_bytes, kind_byte}
 use Rattle.redo_journal.proofs.spelling.put_record.Goals as goal
+use Rattle.redo_journal.specs.declared.sizes.TheConstants.{IMAGE_SIZE}
 
 all_push : {X : Type 0} (P : X → Type 0) (xs : List X) (x : X) → AllByRecursion P xs → P x → AllByRecursion P (xs ++ x ∷ [])
 all_push P [] x all here = (here, tt)
@@ -17,7 +18,7 @@ loop-i-preserved c =
     let image : PageParts = c.index-images-i.result in
     let more : take (l.i + 1) xs ≡ take l.i xs ++ image ∷ [] =
     take_more xs l.i image c.loop-i-test.true ∙ ap (λ (p : PageParts). take l.i xs ++ p ∷ []) (sym c.index-images-i.is) in
-    let step : 5 + 1028 * (l.i + 1) ≡ 5 + 1028 * l.i + 1028 = omega arith in
+    let step : 5 + IMAGE_SIZE * (l.i + 1) ≡ 5 + IMAGE_SIZE * l.i + IMAGE_SIZE = omega arith in
     let head = λ (b : List ℕ). kind_byte c.args.kind ∷ (to_be_bytes w32 (length xs) ++ b) in
     record {
       front =

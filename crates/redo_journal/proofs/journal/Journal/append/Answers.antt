@@ -8,13 +8,13 @@ use Rattle.redo_journal.specs.Journals.{JournalParts, IsJournal, IsAppendedOrNot
 use Rattle.redo_journal.specs.Record.{RecordParts, spelled_with_gate, size_of, commits_of}
 use Rattle.redo_journal.specs.declared.kind.Kind.{Kind}
 use Rattle.redo_journal.proofs.Appending.{meanwhile, as_before, afterwards, ready, IsReady}
-use Rattle.redo_journal.proofs.Moments.{started, weaker}
+use Rattle.disk_trait.proofs.DiskSteps.{started, weaker}
 use Rattle.redo_journal.proofs.journal.Journal.append.Goals as goal
 
 pub returns-then-left-need-clause-any_moment : goal.returns-then-left-need-clause-any_moment
 returns-then-left-need-clause-any_moment g c file rs new told only holds staged =
     let j : JournalParts = c.args.self.now in
-    started g.D.Disk.moment g.D.Disk.left_since c.args.disk.now (IsAppendedOrNot j rs new file)
+    started g.D.Disk c.args.disk.now (IsAppendedOrNot j rs new file)
     (λ f left. subst (λ (x : List ℕ). IsAppendedOrNot j rs new file x) (sym (only f (g.met.D.Disk.only_now c.args.disk.now f left))) (as_before j rs new file holds))
 
 -- the record that the journal has staged
@@ -40,7 +40,7 @@ returns-in_err-write_record-clause-any_moment g c file rs new told only holds st
     let small : j.pages ≤ 2 ^ 32 = omega (arith, ap (λ (x : JournalParts). x.pages) view, c.self.ranges.1) in
     let here : IsReady j new (spelled_with_gate r) = ready j new r c.need-need.result c.left-left.result (subst (λ (x : JournalParts). IsJournal x) view c.self.invariant.0) small staged is c.requires.staged c.requires.unspent c.write_record.ensures.again c.need-need.ensures c.left-left.ensures c.if-left-need.false in
     let gate_is : c.start_of.result + i.end ≡ area_start j.area + j.end = ap (λ (n : ℕ). n + i.end) c.start_of.ensures ∙ ap (λ (x : JournalParts). area_start x.area + x.end) view in
-    weaker g.D.Disk.moment g.D.Disk.left_since c.args.disk.now c.write_record.new.disk (TornBehind (c.start_of.result + i.end) (spelled_with_gate r) file) (IsAppendedOrNot j rs new file)
+    weaker g.D.Disk c.args.disk.now c.write_record.new.disk (TornBehind (c.start_of.result + i.end) (spelled_with_gate r) file) (IsAppendedOrNot j rs new file)
     (λ f torn. meanwhile j rs new file holds (spelled_with_gate r) here.staged here.room f (subst (λ (n : ℕ). TornBehind n (spelled_with_gate r) file f) gate_is torn))
     (c.write_record.ensures.any_moment file told only)
 
@@ -54,7 +54,7 @@ returns-clause-any_moment g c file rs new told only holds staged =
     let small : j.pages ≤ 2 ^ 32 = omega (arith, ap (λ (x : JournalParts). x.pages) view, c.self.ranges.1) in
     let here : IsReady j new (spelled_with_gate r) = ready j new r c.need-need.result c.left-left.result (subst (λ (x : JournalParts). IsJournal x) view c.self.invariant.0) small staged is c.requires.staged c.requires.unspent c.write_record.ensures.again c.need-need.ensures c.left-left.ensures c.if-left-need.false in
     let gate_is : c.start_of.result + i.end ≡ area_start j.area + j.end = ap (λ (n : ℕ). n + i.end) c.start_of.ensures ∙ ap (λ (x : JournalParts). area_start x.area + x.end) view in
-    weaker g.D.Disk.moment g.D.Disk.left_since c.args.disk.now c.write_record.new.disk (TornBehind (c.start_of.result + i.end) (spelled_with_gate r) file) (IsAppendedOrNot j rs new file)
+    weaker g.D.Disk c.args.disk.now c.write_record.new.disk (TornBehind (c.start_of.result + i.end) (spelled_with_gate r) file) (IsAppendedOrNot j rs new file)
     (λ f torn. meanwhile j rs new file holds (spelled_with_gate r) here.staged here.room f (subst (λ (n : ℕ). TornBehind n (spelled_with_gate r) file f) gate_is torn))
     (c.write_record.ensures.any_moment file told only)
 

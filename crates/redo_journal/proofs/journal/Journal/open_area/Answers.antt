@@ -9,6 +9,7 @@ use Rattle.redo_journal.proofs.GrammarLaws.{weights-commits}
 use Rattle.redo_journal.proofs.Laying.{laid_first}
 use Rattle.redo_journal.proofs.Moments.{if_some_map}
 use Rattle.redo_journal.proofs.journal.Journal.open_area.Goals as goal
+use Rattle.redo_journal.specs.declared.sizes.TheConstants.{HEAD_SIZE, AREA_SIZE, HOMES_START, PAGE_SIZE}
 
 -- what a `?` handed on
 handed : {T : Type 0} (r : Result T AreaFault) (y fault : AreaFault) (at : ℕ) → r ≡ Err y → y ≡ fault → r ≡ Err (BadRecord at) → fault ≡ BadRecord at
@@ -19,7 +20,7 @@ returns-in_err-bytes-clause-bad g c at is =
     let p = err_from_is_err_and c.from_residual.result c.from_residual.ensures.1 in
     absurd (c.in_err-bytes.ensures.unread at (ap (λ (x : AreaFault). Err x) (handed c.from_residual.result p.0 c.in_err-bytes.field-0.0 at p.1 p.2 is)))
 
-within : (area pages size long : ℕ) → area < 2 → 525312 + 1024 * pages ≤ size → long ≡ size → 1024 + 262144 * area + 262144 ≤ long
+within : (area pages size long : ℕ) → area < 2 → HOMES_START + PAGE_SIZE * pages ≤ size → long ≡ size → HEAD_SIZE + AREA_SIZE * area + AREA_SIZE ≤ long
 within area pages size long which fits is = omega (arith, which, fits, is)
 
 pub returns-clause-found : goal.returns-clause-found

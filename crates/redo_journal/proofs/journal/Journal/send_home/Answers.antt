@@ -8,6 +8,7 @@ use Rattle.redo_journal.specs.Sending.{AreRecordsAt}
 use Rattle.redo_journal.proofs.HomeMoments.{ok_more, some_more, from_only}
 use Rattle.redo_journal.proofs.HomeWalks.{journal_records, holds_still, own_still}
 use Rattle.redo_journal.proofs.journal.Journal.send_home.Goals as goal
+use Rattle.redo_journal.specs.declared.sizes.TheConstants.{HEAD_SIZE, AREA_SIZE}
 
 -- the records stand where the code looks for them
 stand : (g : _) (c : goal.After-send_and_sync g) (file : List ℕ) (records : List RecordParts) → HoldsFor c.args.self.now records file
@@ -16,7 +17,7 @@ stand g c file records holds =
     let same = c.self.view_is in
     let end = ap (λ j. j.end) same in
     journal_records c.args.self.now records file c.self.inside.pages c.start_of-start.result c.self.inside.end (omega (arith, end, c.self.invariant.0.within)) holds
-    (ap (λ j. j.pages) same) (c.start_of-start.ensures ∙ ap (λ j. 1024 + 262144 * j.area) same) end
+    (ap (λ j. j.pages) same) (c.start_of-start.ensures ∙ ap (λ j. HEAD_SIZE + AREA_SIZE * j.area) same) end
 
 pub returns-clause-sent : goal.returns-clause-sent
 returns-clause-sent g c =
@@ -27,7 +28,7 @@ returns-clause-elsewhere g c = λ file records told holds. (c.send_and_sync.ensu
 
 pub returns-clause-any_moment : goal.returns-clause-any_moment
 returns-clause-any_moment g c = λ file records told only holds.
-    from_only g.D.Disk.content g.D.Disk.may_leave g.D.Disk.moment g.D.Disk.left_since (is_named records) c.args.disk.now c.send_and_sync.new.disk file only
+    from_only g.D.Disk (is_named records) c.args.disk.now c.send_and_sync.new.disk file only
     (c.send_and_sync.ensures.homes file records told (stand g c file records holds))
 
 -- the area reads the same
@@ -43,4 +44,4 @@ returns-clause-area g c = area_still g c
 
 pub returns-clause-own : goal.returns-clause-own
 returns-clause-own g c =
-    own_still c.args.self.now (g.D.Disk.content c.args.disk.now) (g.D.Disk.content c.send_and_sync.new.disk) c.send_and_sync.ensures.told c.requires.own (area_still g c)
+    own_still c.args.self.now (g.D.Disk.content c.args.disk.now) (g.D.Disk.content c.send_and_sync.new.disk) c.send_and_sync.ensures.keeps.told c.requires.own (area_still g c)
