@@ -9,6 +9,7 @@ use Rattle.object_graph.specs.declared.calls.Call.TheVariants.{Begin}
 use Rattle.object_graph.specs.declared.calls.Reply.TheVariants.{Done, Refused}
 use Rattle.object_graph.specs.declared.calls.Refusal.{Refusal}
 use Rattle.object_graph.specs.declared.calls.Refusal.TheVariants.{AlreadyOpen, TooMany, Memory, Broken}
+use Rattle.object_graph.specs.declared.limits.TheConstants.{MOST_OPEN}
 use Rattle.store_model.specs.Worlds.{World, Transaction, nothing, find_transaction, transaction, fresh_transaction, view}
 use Rattle.store_model.specs.Causes.{first_met, first_refusal, when, has_page}
 use Rattle.store_model.specs.Replies.{AllowsReply, is_free}
@@ -95,7 +96,6 @@ pub stands_begun : (s : TransactionsParts) (w : World) (txn : ℕ) (locks : Lock
     → numbers locks.held ≡ numbers s.locks.held ++ txn ∷ [] → HaveSameLocks s.locks.held locks.held → locks.pages ≡ s.locks.pages
     → Stands (record { table = s.table ++ (txn, fresh_entry) ∷ []; locks = locks; frames = s.frames }) (begun w txn)
 stands_begun s w txn locks h none closed admitted same pages = record {
-  limit = h.limit;
   fields = h.fields;
   table = table_begun w s.table txn h.table none;
   locks = locks_begun w s.locks locks txn h.locks closed admitted same pages;
@@ -157,18 +157,18 @@ not_admitted s w txn h none = elim (cases_Bool (is_admitted s.locks.held txn)) [
 abbrev causes_by : Bool → Bool → Option Refusal
 causes_by there most = first_met (when there AlreadyOpen ∷ when most TooMany ∷ [])
 
-refusal_is : (s : TransactionsParts) (w : World) (txn : ℕ) → IsReady s w → first_refusal w (Begin txn) nothing ≡ causes_by (is_some (find_transaction w txn)) (nat_le 64 (length s.table))
+refusal_is : (s : TransactionsParts) (w : World) (txn : ℕ) → IsReady s w → first_refusal w (Begin txn) nothing ≡ causes_by (is_some (find_transaction w txn)) (nat_le MOST_OPEN (length s.table))
 refusal_is s w txn h =
-    ap (λ b. first_met (option_map (λ count. Broken count) b ∷ when (is_some (find_transaction w txn)) AlreadyOpen ∷ when (nat_le w.open_limit (length w.transactions)) TooMany ∷ [])) h.sound
-    ∙ (λ i. causes_by (is_some (find_transaction w txn)) (nat_le (h.stands.limit i) (sym (count_open s w h.stands) i)))
+    ap (λ b. first_met (option_map (λ count. Broken count) b ∷ when (is_some (find_transaction w txn)) AlreadyOpen ∷ when (nat_le MOST_OPEN (length w.transactions)) TooMany ∷ [])) h.sound
+    ∙ (λ i. causes_by (is_some (find_transaction w txn)) (nat_le MOST_OPEN (sym (count_open s w h.stands) i)))
 
 pub already_open : (s : TransactionsParts) (w : World) (txn : ℕ) → IsReady s w → is_some (find_transaction w txn) ≡ true → AllowsReply w (Begin txn) nothing (Refused AlreadyOpen)
-already_open s w txn h there = refused w (Begin txn) AlreadyOpen (refusal_is s w txn h ∙ ap (λ b. causes_by b (nat_le 64 (length s.table))) there)
+already_open s w txn h there = refused w (Begin txn) AlreadyOpen (refusal_is s w txn h ∙ ap (λ b. causes_by b (nat_le MOST_OPEN (length s.table))) there)
 
-pub too_many : (s : TransactionsParts) (w : World) (txn : ℕ) → IsReady s w → find_transaction w txn ≡ None → nat_le 64 (length s.table) ≡ true → AllowsReply w (Begin txn) nothing (Refused TooMany)
+pub too_many : (s : TransactionsParts) (w : World) (txn : ℕ) → IsReady s w → find_transaction w txn ≡ None → nat_le MOST_OPEN (length s.table) ≡ true → AllowsReply w (Begin txn) nothing (Refused TooMany)
 too_many s w txn h closed most = refused w (Begin txn) TooMany (refusal_is s w txn h ∙ (λ i. causes_by (is_some (closed i)) (most i)))
 
-pub none_met : (s : TransactionsParts) (w : World) (txn : ℕ) → IsReady s w → find_transaction w txn ≡ None → nat_le 64 (length s.table) ≡ false → first_refusal w (Begin txn) nothing ≡ None
+pub none_met : (s : TransactionsParts) (w : World) (txn : ℕ) → IsReady s w → find_transaction w txn ≡ None → nat_le MOST_OPEN (length s.table) ≡ false → first_refusal w (Begin txn) nothing ≡ None
 none_met s w txn h closed few = refusal_is s w txn h ∙ (λ i. causes_by (is_some (closed i)) (few i))
 
 pub may_lack : (w : World) (txn : ℕ) → first_refusal w (Begin txn) nothing ≡ None → AllowsReply w (Begin txn) nothing (Refused Memory)

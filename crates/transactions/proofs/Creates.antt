@@ -9,6 +9,7 @@ use Rattle.object_graph.specs.declared.calls.Refusal.{Refusal}
 use Rattle.object_graph.specs.declared.calls.Refusal.TheVariants.{Busy, TooWide, KnowsTooMany, PageFull}
 use Rattle.object_graph.specs.Graphs.{objects_at}
 use Rattle.object_graph.proofs.Paths.{name_of}
+use Rattle.object_graph.specs.declared.limits.TheConstants.{MOST_KNOWN}
 use Rattle.store_model.specs.Worlds.{World, Transaction, nothing, view, slots_of, fields_of}
 use Rattle.store_model.specs.Images.{shown_slot}
 use Rattle.store_model.specs.Causes.{first_met, first_refusal, when, no_page, busy_to_write, too_wide, knows_too_many, page_full, free_slot, name_at, new_name}
@@ -53,13 +54,13 @@ create_wide s w txn e page o low nobody wide =
     to_wide s w txn e page o low nobody ∙ wide_by s w txn e page true (knows_too_many w txn ∷ page_full w txn page ∷ []) o wide
 
 to_known : (s : TransactionsParts) (w : World) (txn : ℕ) (e : OpenParts) (page : ℕ) (b : Bool) → IsOpened s w txn e → page < w.pages → IsNobody (is_in_way true s.locks.held txn page)
-    → is_wide e.written page ≡ false → nat_le 4096 (length e.known) ≡ b → first_refusal w (New txn page) nothing ≡ first_met (when b KnowsTooMany ∷ page_full w txn page ∷ [])
+    → is_wide e.written page ≡ false → nat_le MOST_KNOWN (length e.known) ≡ b → first_refusal w (New txn page) nothing ≡ first_met (when b KnowsTooMany ∷ page_full w txn page ∷ [])
 to_known s w txn e page b o low nobody narrow full =
     to_wide s w txn e page o low nobody
     ∙ (wide_by s w txn e page false (knows_too_many w txn ∷ page_full w txn page ∷ []) o narrow ∙ full_by s w txn e b (page_full w txn page ∷ []) o full)
 
 pub create_knowing : (s : TransactionsParts) (w : World) (txn : ℕ) (e : OpenParts) (page : ℕ) → IsOpened s w txn e → page < w.pages → IsNobody (is_in_way true s.locks.held txn page)
-    → is_wide e.written page ≡ false → nat_le 4096 (length e.known) ≡ true → first_refusal w (New txn page) nothing ≡ Some KnowsTooMany
+    → is_wide e.written page ≡ false → nat_le MOST_KNOWN (length e.known) ≡ true → first_refusal w (New txn page) nothing ≡ Some KnowsTooMany
 create_knowing s w txn e page o low nobody narrow full = to_known s w txn e page true o low nobody narrow full
 
 -- ---- the page as it is seen
@@ -78,7 +79,7 @@ slots_seen : (w : World) (t : Transaction) (page : ℕ) (image : PageParts) → 
 slots_seen w t page image is = ap (λ (i : PageParts). length i.slots) is ∙ length-shown (slots_of w page) (fields_of w page) (view w t) w.freed page
 
 pub create_full : (s : TransactionsParts) (w : World) (txn : ℕ) (e : OpenParts) (page : ℕ) → IsOpened s w txn e → page < w.pages → IsNobody (is_in_way true s.locks.held txn page)
-    → is_wide e.written page ≡ false → nat_le 4096 (length e.known) ≡ false → IsFull (frame_at s.frames page).current
+    → is_wide e.written page ≡ false → nat_le MOST_KNOWN (length e.known) ≡ false → IsFull (frame_at s.frames page).current
     → first_refusal w (New txn page) nothing ≡ Some (PageFull page)
 create_full s w txn e page o low nobody narrow spare full =
     let image = seen_image s w txn e page o low nobody in
@@ -94,7 +95,7 @@ create_full s w txn e page o low nobody narrow spare full =
 pub record HasMade (s new : TransactionsParts) (txn : ℕ) (e : OpenParts) (page : ℕ) (name : NameParts) : Type 0 where
   pub nobody : IsNobody (is_in_way true s.locks.held txn page)
   pub narrow : is_wide e.written page ≡ false
-  pub spare : nat_le 4096 (length e.known) ≡ false
+  pub spare : nat_le MOST_KNOWN (length e.known) ≡ false
   pub locked : AddsExclusive s.locks.held new.locks.held txn page
   pub pages : new.locks.pages ≡ s.locks.pages
   pub noted : ChangesEntry (ChangesTwice (NotesPage page) (NotesTarget (Some name))) txn s.table new.table
@@ -124,7 +125,6 @@ made_at s new w txn e page slot o low within found free run = record {
   allowed = to_known s w txn e page false o low run.nobody run.narrow run.spare ∙ ap (λ x. first_met (when (is_none x) (PageFull page) ∷ [])) found;
   named = ap (option_map (name_at w.graph page)) found;
   stands = record {
-    limit = o.ready.stands.limit;
     fields = o.ready.stands.fields;
     table = table_changes w s.table new.table txn e o.of (ChangesTwice (NotesPage page) (NotesTarget (Some name))) (makes name) o.ready.stands.table o.is o.found (λ t. refl) run.noted
         (λ f h. entry_makes e f o.of page name refl o.entry h);

@@ -6,8 +6,8 @@ use Rattle.std.proofs.lemmas.Bool.{cases_Bool, cases_eq, eqb-true, eq-eqb, ne_eq
 use Rattle.std.proofs.lemmas.List.{reverse-append}
 use Rattle.std.proofs.lemmas.List.Elements.{filter-append}
 use Rattle.std.proofs.lemmas.Map.Entries.{lookup-filter-keys}
-use Rattle.object_graph.specs.declared.names.Object.{Object}
-use Rattle.store_model.specs.Worlds.{World, Transaction, find_transaction, transaction, fresh_transaction, view, starts, slots_of, fields_of, with_writes, new_object}
+use Rattle.object_graph.specs.ObjectParts.{ObjectParts}
+use Rattle.store_model.specs.Worlds.{World, Transaction, find_transaction, transaction, fresh_transaction, view, slots_of, fields_of, with_writes, new_object}
 use Rattle.store_model.specs.Causes.{has_page}
 use Rattle.store_model.specs.Images.{shown_of}
 use Rattle.store_model.specs.Steps.{without}
@@ -194,7 +194,7 @@ frames_end w w2 frames new txn t pages change lawful found same_pages is noted h
 }
 
 -- an image depends on the graph and the freed names alone
-image_same : (w w2 : World) (one two : List Object) (p : ℕ) → one ≡ two → w.freed ≡ w2.freed → image_in w one p ≡ image_in w2 two p
+image_same : (w w2 : World) (one two : List ObjectParts) (p : ℕ) → one ≡ two → w.freed ≡ w2.freed → image_in w one p ≡ image_in w2 two p
 image_same w w2 one two p graph freed =
     ap (λ g. image_in w g p) graph ∙ ap (λ f. record { number = p; slots = shown_of (slots_of w p) (fields_of w p) two f p }) freed
 
@@ -216,7 +216,7 @@ frames_commit w w2 frames new txn t pages lawful found same_pages graph freed is
       seen = λ u p off. ap (λ slots. record { number = p; slots = slots }) (sym (others_see w w2 t u p graph freed lawful_t off));
     })
   where
-    lawful_t : IsLawfulTransaction w.graph w.freed (starts w) t
+    lawful_t : IsLawfulTransaction w.graph w.freed t
     lawful_t = lawful_one w t lawful.orderly (found_in_list (λ (t : Transaction). t.number == txn) w.transactions t found).0
 
 -- the frames after an abort

@@ -1,6 +1,9 @@
 -- The table of open transactions, and the entry of one of them.
-use Rattle.std.proofs.Common.{◌≡◌, ℕ, ◌+◌, Bool, true, false, ◌||◌, ◌==◌, cond, List, [], ◌∷◌, map, reverse, length, Option, Some, None, refl, sym, subst, ap, ◌∙◌, inl, inr, arith}
-use Rattle.std.proofs.lemmas.Bool.{cases_Bool, cases_eq, eq-eqb, ne_eqb}
+use Rattle.std.proofs.Common.{◌≡◌, ℕ, ◌+◌, Bool, true, false, ◌||◌, ◌==◌, cond, List, [], ◌∷◌, map, reverse, length, Option, Some, None, refl, sym, subst, ap, ◌∙◌, inl, inr, arith, nat_eq, not, filter}
+use Rattle.std.proofs.lemmas.Bool.{cases_Bool, cases_eq, eq-eqb, ne_eqb, eqb-true}
+use Rattle.std.proofs.lemmas.Map.Keys.{IsDistinct-head, IsDistinct-tail}
+use Rattle.std.specs.List.{AllByRecursion, IsDistinct}
+use Rattle.std.specs.Map.{keys_of, remove_entry}
 use Rattle.object_graph.specs.NameParts.{NameParts}
 use Rattle.object_graph.specs.Names.{name_eq}
 use Rattle.object_graph.specs.Graphs.{has_name}
@@ -147,3 +150,21 @@ changes_twice how more txn old mid new a b = record {
   others = λ other ne. b.others other ne ∙ a.others other ne;
   changed = λ e is. let g = a.changed e is in let f = b.changed g.0 g.1 in (f.0, f.1, (g.0, g.2, f.2));
 }
+
+-- ---- one entry taken out
+
+others_stay : (txn : ℕ) (es : Entries) → AllByRecursion (λ number. nat_eq txn number ≡ false) (keys_of es) → es ≡ filter (λ (e : ℕ × OpenParts). not (nat_eq txn e.0)) es
+others_stay txn [] apart = refl
+others_stay txn (e ∷ es) apart = rw apart.0 (ap (λ (l : Entries). e ∷ l) (others_stay txn es apart.1))
+
+-- where no number is there twice, what is left are the entries of the others
+pub one_taken_out : (txn : ℕ) (es : Entries) → IsDistinct nat_eq (keys_of es) → remove_entry (nat_eq txn) es ≡ filter (λ (e : ℕ × OpenParts). not (nat_eq txn e.0)) es
+one_taken_out txn [] apart = refl
+one_taken_out txn (e ∷ es) apart = by_test (nat_eq txn e.0) refl (one_taken_out txn es (IsDistinct-tail nat_eq e.0 (keys_of es) apart))
+  where
+    by_test : (b : Bool) → nat_eq txn e.0 ≡ b → remove_entry (nat_eq txn) es ≡ filter (λ (e : ℕ × OpenParts). not (nat_eq txn e.0)) es
+        → cond b es (e ∷ remove_entry (nat_eq txn) es) ≡ cond (not b) (e ∷ filter (λ (e : ℕ × OpenParts). not (nat_eq txn e.0)) es) (filter (λ (e : ℕ × OpenParts). not (nat_eq txn e.0)) es)
+    by_test true is rest =
+        others_stay txn es
+        (subst (λ (n : ℕ). AllByRecursion (λ number. nat_eq n number ≡ false) (keys_of es)) (sym (eqb-true txn e.0 is)) (IsDistinct-head nat_eq e.0 (keys_of es) apart))
+    by_test false is rest = ap (λ (l : Entries). e ∷ l) rest

@@ -2,7 +2,7 @@
 use Rattle.std.proofs.Common.{◌≡◌, ◌≢◌, ℕ, ◌<◌, true, false, ◌||◌, ◌==◌, List, length, Some, refl, sym, subst, ap, ◌∙◌, inl, inr, arith, set, get_or-set_same, get_or-set_other}
 use Rattle.std.proofs.lemmas.Bool.{cases_Bool, cases_eq, eq-eqb, eqb-true, ne_eqb, or_cases}
 use Rattle.std.proofs.lemmas.List.{length-set}
-use Rattle.store_model.specs.Worlds.{World, Transaction, find_transaction, transaction, view, starts}
+use Rattle.store_model.specs.Worlds.{World, Transaction, find_transaction, transaction, view}
 use Rattle.store_model.specs.Causes.{has_page}
 use Rattle.store_model.specs.Steps.{with_page, with_transaction}
 use Rattle.store_model.specs.Lawful.{IsLawfulTransaction}
@@ -16,7 +16,7 @@ use Rattle.transactions.proofs.LocksHeld.{at_same, at_other}
 
 -- the current image of a page that nobody else wrote is what the transaction sees
 pub sees : (w : World) (page : ℕ) (frame : Frame) (txn : ℕ) (t : Transaction) → IsFrameOf w page frame → find_transaction w txn ≡ Some t
-    → IsLawfulTransaction w.graph w.freed (starts w) t → ((u : ℕ) → u ≢ txn → wrote w u page ≡ false)
+    → IsLawfulTransaction w.graph w.freed t → ((u : ℕ) → u ≢ txn → wrote w u page ≡ false)
     → frame.current ≡ image_in w (view w t) page
 sees w page frame txn t is found lawful alone =
     let e : transaction w txn ≡ t = transaction_found w txn t found in

@@ -1,15 +1,16 @@
 -- The slot and the name of a new object.
-use Rattle.std.proofs.Common.{◌≡◌, ℕ, zero, suc, ◌<◌, ◌≤◌, Bool, true, false, not, ◌||◌, ◌==◌, cond, List, [], ◌∷◌, ◌++◌, map, length, Some, None, refl, sym, subst, ap, ◌∙◌, inl, inr, arith, append-nil, nat_lt}
+use Rattle.std.proofs.Common.{◌-◌, ◌≡◌, ℕ, zero, suc, ◌<◌, ◌≤◌, Bool, true, false, not, ◌||◌, ◌==◌, cond, List, [], ◌∷◌, ◌++◌, map, length, Some, None, refl, sym, subst, ap, ◌∙◌, inl, inr, arith, append-nil, nat_lt}
 use Rattle.std.specs.List.{filter, find, list_any}
 use Rattle.std.specs.Option.{option_or}
 use Rattle.std.proofs.lemmas.Bool.{cases_eq, eq-eqb, ne_eqb, lt-ltb, le-ltb, cases_lt, false_from_ne_true}
 use Rattle.std.proofs.lemmas.List.Folds.{find-append, list_any-append}
 use Rattle.std.proofs.lemmas.List.{map-append, length-map}
 use Rattle.object_graph.specs.NameParts.{NameParts}
-use Rattle.object_graph.specs.declared.names.Object.{Object}
+use Rattle.object_graph.specs.ObjectParts.{ObjectParts}
 use Rattle.object_graph.specs.Graphs.{is_at, objects_at, has_name}
 use Rattle.object_graph.specs.Slots.{below}
-use Rattle.store_model.specs.Worlds.{World, Transaction, view, with_writes, new_object, starts, is_unfreed, slots_of, fields_of, find_transaction}
+use Rattle.object_graph.specs.declared.limits.TheConstants.{LAST_GENERATION}
+use Rattle.store_model.specs.Worlds.{World, Transaction, view, with_writes, new_object, is_unfreed, slots_of, fields_of, find_transaction}
 use Rattle.store_model.specs.Images.{unfreed_at, shown_slot, slot_with}
 use Rattle.page_image.specs.Slots.{has_room}
 use Rattle.store_model.specs.Causes.{is_occupied, free_slot}
@@ -71,11 +72,11 @@ not_or false b e = ap not e
 not_or_first : (a b : Bool) → a ≡ true → not (a || b) ≡ false
 not_or_first a b e = ap (λ x. not (x || b)) e
 
-any_map : (p : ℕ → Bool) (f : Object → ℕ) (xs : List Object) → list_any (λ o. p (f o)) xs ≡ list_any p (map f xs)
+any_map : (p : ℕ → Bool) (f : ObjectParts → ℕ) (xs : List ObjectParts) → list_any (λ o. p (f o)) xs ≡ list_any p (map f xs)
 any_map p f [] = refl
 any_map p f (x ∷ xs) = ap (λ b. p (f x) || b) (any_map p f xs)
 
-any_same : (p q : Object → Bool) (xs : List Object) → ((x : Object) → In x xs → p x ≡ q x) → list_any p xs ≡ list_any q xs
+any_same : (p q : ObjectParts → Bool) (xs : List ObjectParts) → ((x : ObjectParts) → In x xs → p x ≡ q x) → list_any p xs ≡ list_any q xs
 any_same p q [] h = refl
 any_same p q (x ∷ xs) h = ap (λ b. b || list_any p xs) (h x (inl refl)) ∙ ap (λ b. q x || b) (any_same p q xs (λ y m. h y (inr m)))
 
@@ -90,11 +91,11 @@ taken_as_free w txn t fields page slot lawful found = by (filter (is_at page slo
     m_t : In t w.transactions
     m_t = (found_in_list (λ (t : Transaction). t.number == txn) w.transactions t found).0
 
-    lt : IsLawfulTransaction w.graph w.freed (starts w) t
-    lt = each_in (IsLawfulTransaction w.graph w.freed (starts w)) w.transactions t lawful.orderly.transactions m_t
+    lt : IsLawfulTransaction w.graph w.freed t
+    lt = each_in (IsLawfulTransaction w.graph w.freed) w.transactions t lawful.orderly.transactions m_t
 
     unfree : Bool
-    unfree = list_any (λ o. is_unfreed w.freed o || (o.name.generation == 65535)) (objects_at w.graph page slot)
+    unfree = list_any (λ o. is_unfreed w.freed o || (o.name.generation == LAST_GENERATION)) (objects_at w.graph page slot)
 
     occupied_is : is_occupied w txn page slot ≡ (unfree || list_any (is_at page slot) t.own)
     occupied_is = ap (λ (x : Transaction). unfree || list_any (is_at page slot) x.own) (transaction_found w txn t found)
@@ -102,20 +103,20 @@ taken_as_free w txn t fields page slot lawful found = by (filter (is_at page slo
     count : length (objects_at (view w t) page slot) ≡ length (objects_at w.graph page slot ++ map (new_object w) (filter (is_at page slot) t.own))
     count = ap length (objects_at-view w t page slot) ∙ length-map (objects_at w.graph page slot ++ map (new_object w) (filter (is_at page slot) t.own)) (with_writes t.writes)
 
-    free : (us : List Object) → unfreed_at w.graph w.freed page slot ≡ us → filter (is_at page slot) t.own ≡ []
+    free : (us : List ObjectParts) → unfreed_at w.graph w.freed page slot ≡ us → filter (is_at page slot) t.own ≡ []
         → has_room (slot_with fields (map (with_writes t.writes) us) (length (objects_at w.graph page slot))) ≡ not unfree
     free (o ∷ os) e none =
         let i = in_filter (is_unfreed w.freed) (objects_at w.graph page slot) o (subst (λ us. In o us) (sym e) (inl refl)) in
-        sym (ap not (in_any (λ o. is_unfreed w.freed o || (o.name.generation == 65535)) (objects_at w.graph page slot) o i.0 (or_left (not (has_name w.freed o.name)) (o.name.generation == 65535) i.1)))
+        sym (ap not (in_any (λ o. is_unfreed w.freed o || (o.name.generation == LAST_GENERATION)) (objects_at w.graph page slot) o i.0 (or_left (not (has_name w.freed o.name)) (o.name.generation == LAST_GENERATION) i.1)))
     free [] e none =
-        let freed_all : (x : Object) → In x (objects_at w.graph page slot) → (not (has_name w.freed x.name) || (x.name.generation == 65535)) ≡ (x.name.generation == 65535) =
-        λ x m. ap (λ b. b || (x.name.generation == 65535)) (false_from_ne_true (not (has_name w.freed x.name)) (λ p. subst (λ us. In x us) e (filter_in (is_unfreed w.freed) (objects_at w.graph page slot) x m p))) in
+        let freed_all : (x : ObjectParts) → In x (objects_at w.graph page slot) → (not (has_name w.freed x.name) || (x.name.generation == LAST_GENERATION)) ≡ (x.name.generation == LAST_GENERATION) =
+        λ x m. ap (λ b. b || (x.name.generation == LAST_GENERATION)) (false_from_ne_true (not (has_name w.freed x.name)) (λ p. subst (λ us. In x us) e (filter_in (is_unfreed w.freed) (objects_at w.graph page slot) x m p))) in
         let n : ℕ = length (objects_at w.graph page slot) in
-        let same : unfree ≡ not (nat_lt n 65535) =
-        any_same (λ o. is_unfreed w.freed o || (o.name.generation == 65535)) (λ o. o.name.generation == 65535) (objects_at w.graph page slot) freed_all
-        ∙ (any_map (λ k. k == 65535) (λ o. o.name.generation) (objects_at w.graph page slot)
-        ∙ (ap (list_any (λ k. k == 65535)) (lawful.orderly.counted page slot) ∙ among_counts n 65534)) in
-        twice (nat_lt n 65535) ∙ sym (ap not same)
+        let same : unfree ≡ not (nat_lt n LAST_GENERATION) =
+        any_same (λ o. is_unfreed w.freed o || (o.name.generation == LAST_GENERATION)) (λ o. o.name.generation == LAST_GENERATION) (objects_at w.graph page slot) freed_all
+        ∙ (any_map (λ k. k == LAST_GENERATION) (λ o. o.name.generation) (objects_at w.graph page slot)
+        ∙ (ap (list_any (λ k. k == LAST_GENERATION)) (lawful.orderly.counted page slot) ∙ among_counts n (LAST_GENERATION - 1))) in
+        twice (nat_lt n LAST_GENERATION) ∙ sym (ap not same)
       where
         twice : (b : Bool) → b ≡ not (not b)
         twice true = refl

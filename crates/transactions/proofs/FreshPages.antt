@@ -8,7 +8,10 @@ use Rattle.std.proofs.lemmas.Option.{slice_get_within, get_or_from_slice_get}
 use Rattle.object_graph.specs.Graphs.{fresh_graph}
 use Rattle.object_graph.specs.Slots.{below}
 use Rattle.object_graph.specs.SlotParts.{SlotParts}
-use Rattle.object_graph.specs.declared.names.Object.{Object}
+use Rattle.object_graph.specs.ObjectParts.{ObjectParts}
+use Rattle.object_graph.specs.declared.limits.TheConstants.{MOST_PAGES}
+use Rattle.object_graph.specs.declared.names.TheConstants.{OBJECT_FIELDS}
+use Rattle.object_graph.specs.declared.sizes.TheConstants.{SLOTS_PER_PAGE}
 use Rattle.store_model.specs.Worlds.{is_unfreed, fresh_world}
 use Rattle.store_model.specs.Images.{slot_with, shown_of, shown, all_shown}
 use Rattle.store_model.specs.FromImages.{has_root, IsWhole}
@@ -36,11 +39,11 @@ one_more count = let e : count + 1 ≡ suc count = omega arith in ap fresh_pages
 -- a slot of the first page, or of another
 abbrev slot_of : Bool → ℕ → SlotParts
 slot_of root slot =
-    let objects : List Object = cond (root && (0 == slot)) fresh_graph [] in
-    slot_with 4 (filter (is_unfreed []) objects) (length objects)
+    let objects : List ObjectParts = cond (root && (0 == slot)) fresh_graph [] in
+    slot_with OBJECT_FIELDS (filter (is_unfreed []) objects) (length objects)
 
 abbrev slots_by : Bool → List SlotParts
-slots_by root = map (slot_of root) (below 20)
+slots_by root = map (slot_of root) (below SLOTS_PER_PAGE)
 
 shown_is : (count page : ℕ) → shown (fresh_world count) page ≡ slots_by (0 == page)
 unfolding shown_of
@@ -68,7 +71,7 @@ images_are count = each (below count)
 
 -- ---- they can be opened
 
-pub are_few : (count : ℕ) → count ≤ 4096 → length (fresh_pages count) ≤ 4096
+pub are_few : (count : ℕ) → count ≤ MOST_PAGES → length (fresh_pages count) ≤ MOST_PAGES
 are_few count few = let e = length-map_below fresh count in omega (arith, e, few)
 
 number_is : (page : ℕ) → (fresh page).number ≡ page

@@ -5,6 +5,7 @@ use Rattle.std.specs.Bool.{IsTrue}
 use Rattle.std.proofs.lemmas.List.{length-map, get_or-map}
 use Rattle.std.proofs.lemmas.Option.{slice_get-get_or}
 use Rattle.object_graph.specs.SlotParts.{SlotParts}
+use Rattle.object_graph.specs.declared.names.TheConstants.{OBJECT_FIELDS}
 use Rattle.store_model.specs.Images.{no_slot, shown}
 use Rattle.store_model.specs.FromImages.{world_of, IsSlot, AreImages, has_root, IsWhole}
 use Rattle.store_model.proofs.OpenedWorlds.{opened_has_fields, opened_shows_page, opened_is_lawful}
@@ -28,7 +29,7 @@ image_at : (pages : List PageParts) (page : ℕ) → page < length pages → get
 image_at pages page low = get_or-map (λ (p : PageParts). p.slots) pages page no_page [] low
 
 -- a slot of a page is one of a store
-is_slot : (s : SlotParts) → IsWholeSlot s → IsSlot 4 s
+is_slot : (s : SlotParts) → IsWholeSlot s → IsSlot OBJECT_FIELDS s
 is_slot s h = record {
   named = λ used. let at_least = h.slot.used used in omega (arith, at_least);
   number = λ free. (h.slot.free free).0;
@@ -43,7 +44,7 @@ are_images pages are = record {
   slots = λ page slot low within.
       let p = is_page page (inside low) in
       let there : slot < length (get_or pages page no_page).slots = omega (arith, within, p.count) in
-      subst (λ (image : List SlotParts). IsSlot 4 (get_or image slot no_slot)) (sym (image_at pages page (inside low)))
+      subst (λ (image : List SlotParts). IsSlot OBJECT_FIELDS (get_or image slot no_slot)) (sym (image_at pages page (inside low)))
       (is_slot (get_or (get_or pages page no_page).slots slot no_slot) (all_at IsWholeSlot (get_or pages page no_page).slots slot no_slot p.slots there));
 }
   where
@@ -55,31 +56,30 @@ are_images pages are = record {
 
 -- a committed page is what the opened world shows
 page_shown : (pages : List PageParts) (commits page : ℕ) → AllByRecursion IsPage pages → AreNumbered pages → page < length pages
-    → get_or pages page no_page ≡ image_in (world_of 64 commits (images_of pages)) (world_of 64 commits (images_of pages)).graph page
+    → get_or pages page no_page ≡ image_in (world_of commits (images_of pages)) (world_of commits (images_of pages)).graph page
 page_shown pages commits page are numbered low =
     let number : (get_or pages page no_page).number ≡ page = numbered page (get_or pages page no_page) (slice_get-get_or pages page no_page low) in
     let same = length-map pages (λ (p : PageParts). p.slots) in
     let inside : page < length (images_of pages) = omega (arith, low, same) in
-    let slots : (get_or pages page no_page).slots ≡ shown (world_of 64 commits (images_of pages)) page =
-    sym (image_at pages page low) ∙ sym (opened_shows_page 64 commits page (images_of pages) (are_images pages are) inside) in
+    let slots : (get_or pages page no_page).slots ≡ shown (world_of commits (images_of pages)) page =
+    sym (image_at pages page low) ∙ sym (opened_shows_page commits page (images_of pages) (are_images pages are) inside) in
     λ i. record { number = number i; slots = slots i }
 
 -- a clean frame of a page that nobody wrote
 frame_shown : (pages : List PageParts) (commits page : ℕ) → AllByRecursion IsPage pages → AreNumbered pages → page < length pages
-    → IsFrameOf (world_of 64 commits (images_of pages)) page (frame_at (map clean_frame pages) page)
+    → IsFrameOf (world_of commits (images_of pages)) page (frame_at (map clean_frame pages) page)
 frame_shown pages commits page are numbered low =
     let is = page_shown pages commits page are numbered low in
-    subst (IsFrameOf (world_of 64 commits (images_of pages)) page) (sym (get_or-map clean_frame pages page no_page blank_frame low))
+    subst (IsFrameOf (world_of commits (images_of pages)) page) (sym (get_or-map clean_frame pages page no_page blank_frame low))
     (record { before = is; current = λ txn wrote_it. cc; dirty = λ txn wrote_it. cc; clean = λ nobody. refl })
 
 pub from_pages : (pages : List PageParts) (locks : LockTable) (commits : ℕ) → AllByRecursion IsPage pages → AreNumbered pages → IsTrue (has_root (images_of pages)) → IsWhole (images_of pages)
-    → locks.pages ≡ length pages → locks.held ≡ [] → IsReady (record { table = []; locks = locks; frames = map clean_frame pages }) (world_of 64 commits (images_of pages))
+    → locks.pages ≡ length pages → locks.held ≡ [] → IsReady (record { table = []; locks = locks; frames = map clean_frame pages }) (world_of commits (images_of pages))
 from_pages pages locks commits are numbered root whole count none = record {
-  lawful = opened_is_lawful 64 commits (images_of pages) (are_images pages are) root whole;
+  lawful = opened_is_lawful commits (images_of pages) (are_images pages are) root whole;
   sound = refl;
   stands = record {
-    limit = refl;
-    fields = opened_has_fields 64 commits (images_of pages) (are_images pages are);
+    fields = opened_has_fields commits (images_of pages) (are_images pages are);
     table = record { numbers = refl; each = λ txn. tt };
     locks = record {
       pages = count ∙ sym as_many;

@@ -5,9 +5,9 @@ use Rattle.std.proofs.lemmas.Bool.{cond-true, eqb-true, and_parts}
 use Rattle.object_graph.specs.NameParts.{NameParts}
 use Rattle.object_graph.specs.SlotParts.{SlotParts}
 use Rattle.object_graph.specs.Names.{name_eq}
-use Rattle.object_graph.specs.declared.names.Object.{Object}
+use Rattle.object_graph.specs.ObjectParts.{ObjectParts}
 use Rattle.object_graph.specs.Graphs.{objects_at, is_at}
-use Rattle.store_model.specs.Worlds.{World, Transaction, Write, link, assign, view, with_writes, written_by, new_object, starts, slots_of, fields_of}
+use Rattle.store_model.specs.Worlds.{World, Transaction, Write, link, assign, view, with_writes, written_by, new_object, slots_of, fields_of}
 use Rattle.store_model.specs.Images.{shown_slot, shown_in, slot_with}
 use Rattle.page_image.specs.Slots.{with_number, with_ref}
 use Rattle.store_model.specs.Causes.{has_page}
@@ -22,7 +22,7 @@ use Rattle.store_model.proofs.Locks.{writes_away}
 use Rattle.transactions.proofs.Seen.{IsThere, nothing_in}
 
 -- a page that the transaction didn't write is in its view as in the graph
-pub unwritten_page : (w : World) (t : Transaction) (page : ℕ) → IsLawfulTransaction w.graph w.freed (starts w) t → has_page t.pages_written page ≡ false
+pub unwritten_page : (w : World) (t : Transaction) (page : ℕ) → IsLawfulTransaction w.graph w.freed t → has_page t.pages_written page ≡ false
     → shown_in w (view w t) page ≡ shown_in w w.graph page
 unwritten_page w t page lawful away =
     same_shown (slots_of w page) (fields_of w page) (view w t) w.graph w.freed w.freed page
@@ -83,19 +83,19 @@ ref_on_page w t name field target of d there lt =
 
 -- ---- a commit, and what others see
 
-writes_off : (w : World) (t : Transaction) (page slot : ℕ) (lawful : IsLawfulTransaction w.graph w.freed (starts w) t) → has_page t.pages_written page ≡ false
-    → (os : List Object) → ((o : Object) → In o os → o.name.page ≡ page) → map (with_writes t.writes) os ≡ os
+writes_off : (w : World) (t : Transaction) (page slot : ℕ) (lawful : IsLawfulTransaction w.graph w.freed t) → has_page t.pages_written page ≡ false
+    → (os : List ObjectParts) → ((o : ObjectParts) → In o os → o.name.page ≡ page) → map (with_writes t.writes) os ≡ os
 writes_off w t page slot lawful away os at =
     map_id (with_writes t.writes) os (λ o m. writes_away t t.writes o lawful.writes (subst (λ p. has_page t.pages_written p ≡ false) (sym (at o m)) away))
 
-none_own : (w : World) (t : Transaction) (page slot : ℕ) → IsLawfulTransaction w.graph w.freed (starts w) t → has_page t.pages_written page ≡ false → filter (is_at page slot) t.own ≡ []
+none_own : (w : World) (t : Transaction) (page slot : ℕ) → IsLawfulTransaction w.graph w.freed t → has_page t.pages_written page ≡ false → filter (is_at page slot) t.own ≡ []
 none_own w t page slot lawful away = nothing_in (filter (is_at page slot) t.own) (λ n m.
     let a = in_filter (is_at page slot) t.own n m in
     let p : n.page ≡ page = eqb-true n.page page (and_parts (n.page == page) (n.slot == slot) a.1).0 in
     let y : has_page t.pages_written page ≡ true = subst (λ q. has_page t.pages_written q ≡ true) p (each_in (IsOwn w.graph w.freed t) t.own n lawful.own a.0).page in
     let z : true ≡ false = sym y ∙ away in cc)
 
-pub objects_unwritten : (w : World) (t : Transaction) (page slot : ℕ) → IsLawfulTransaction w.graph w.freed (starts w) t → has_page t.pages_written page ≡ false
+pub objects_unwritten : (w : World) (t : Transaction) (page slot : ℕ) → IsLawfulTransaction w.graph w.freed t → has_page t.pages_written page ≡ false
     → objects_at (view w t) page slot ≡ objects_at w.graph page slot
 objects_unwritten w t page slot lawful away =
     objects_at-view w t page slot
@@ -104,7 +104,7 @@ objects_unwritten w t page slot lawful away =
     ∙ writes_off w t page slot lawful away (objects_at w.graph page slot) (λ o m. (place_of page slot w.graph o m).0)))
 
 -- another transaction sees a page as before, where the one that committed didn't write it
-pub others_see : (w w2 : World) (t u : Transaction) (page : ℕ) → w2.graph ≡ view w t → w2.freed ≡ w.freed → IsLawfulTransaction w.graph w.freed (starts w) t
+pub others_see : (w w2 : World) (t u : Transaction) (page : ℕ) → w2.graph ≡ view w t → w2.freed ≡ w.freed → IsLawfulTransaction w.graph w.freed t
     → has_page t.pages_written page ≡ false → shown_in w2 (view w2 u) page ≡ shown_in w (view w u) page
 others_see w w2 t u page graph freed lawful away =
     same_shown (slots_of w page) (fields_of w page) (view w2 u) (view w u) w2.freed w.freed page

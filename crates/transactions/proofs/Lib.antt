@@ -22,3 +22,4 @@ pub mod Sweeping
 pub mod Viewed
 pub mod Writes
 pub mod Written
+pub mod Unseen

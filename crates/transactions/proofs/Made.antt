@@ -7,9 +7,10 @@ use Rattle.std.proofs.lemmas.List.Elements.{filter-append}
 use Rattle.object_graph.specs.NameParts.{NameParts}
 use Rattle.object_graph.specs.SlotParts.{SlotParts}
 use Rattle.object_graph.specs.Names.{name_eq}
-use Rattle.object_graph.specs.declared.names.Object.{Object}
+use Rattle.object_graph.specs.ObjectParts.{ObjectParts}
 use Rattle.object_graph.specs.Graphs.{is_at, objects_at, has_name, has_object}
-use Rattle.store_model.specs.Worlds.{World, Transaction, Write, link, assign, view, with_writes, written_by, new_object, starts, is_unfreed, slots_of, fields_of, find_transaction}
+use Rattle.object_graph.specs.declared.limits.TheConstants.{LAST_GENERATION}
+use Rattle.store_model.specs.Worlds.{World, Transaction, Write, link, assign, view, with_writes, written_by, new_object, is_unfreed, slots_of, fields_of, find_transaction}
 use Rattle.store_model.specs.Images.{unfreed_at, shown_slot, shown_in, slot_with}
 use Rattle.page_image.specs.Slots.{has_room, taken}
 use Rattle.store_model.specs.Causes.{is_occupied, name_at, has_page}
@@ -52,7 +53,7 @@ free_place w txn t fields page slot lawful found e =
     record {
       unfreed = nothing_in (unfreed_at w.graph w.freed page slot) (λ o m.
           let a = in_filter (is_unfreed w.freed) (objects_at w.graph page slot) o m in
-          let y = in_any (λ o. is_unfreed w.freed o || (o.name.generation == 65535)) (objects_at w.graph page slot) o a.0 (or_left (is_unfreed w.freed o) (o.name.generation == 65535) a.1) in
+          let y = in_any (λ o. is_unfreed w.freed o || (o.name.generation == LAST_GENERATION)) (objects_at w.graph page slot) o a.0 (or_left (is_unfreed w.freed o) (o.name.generation == LAST_GENERATION) a.1) in
           let z : true ≡ false = sym y ∙ parts.0 in cc);
       own = nothing_in (filter (is_at page slot) t.own) (λ n m.
           let a = in_filter (is_at page slot) t.own n m in
@@ -61,7 +62,7 @@ free_place w txn t fields page slot lawful found e =
     }
   where
     unfree : Bool
-    unfree = list_any (λ o. is_unfreed w.freed o || (o.name.generation == 65535)) (objects_at w.graph page slot)
+    unfree = list_any (λ o. is_unfreed w.freed o || (o.name.generation == LAST_GENERATION)) (objects_at w.graph page slot)
 
 known_write_name : (t : Transaction) (write : Write) → IsKnownWrite t write → has_name t.known (written_name write) ≡ true
 known_write_name t (link name field None) h = (and_parts (has_name t.known name) (has_page t.pages_written name.page) h).0
@@ -70,12 +71,12 @@ known_write_name t (link name field (Some target)) h =
     (and_parts (has_name t.known name) (has_page t.pages_written name.page) k.0).0
 known_write_name t (assign name value) h = (and_parts (has_name t.known name) (has_page t.pages_written name.page) h).0
 
-unwritten_object : (writes : List Write) (o : Object) → AllByRecursion (λ x. name_eq o.name (written_name x) ≡ false) writes → with_writes writes o ≡ o
+unwritten_object : (writes : List Write) (o : ObjectParts) → AllByRecursion (λ x. name_eq o.name (written_name x) ≡ false) writes → with_writes writes o ≡ o
 unwritten_object [] o h = refl
 unwritten_object (x ∷ xs) o h = ap (written_by x) (unwritten_object xs o h.1) ∙ written_by_other x o h.0
 
 -- the next name of a free place is not known yet
-pub next_is_unknown : (w : World) (t : Transaction) (page slot : ℕ) → IsLawful w → IsLawfulTransaction w.graph w.freed (starts w) t → IsFreePlace w t page slot
+pub next_is_unknown : (w : World) (t : Transaction) (page slot : ℕ) → IsLawful w → IsLawfulTransaction w.graph w.freed t → IsFreePlace w t page slot
     → has_name t.known (name_at w.graph page slot) ≡ false
 next_is_unknown w t page slot lawful lt free = false_from_ne_true (has_name t.known (name_at w.graph page slot)) (λ known.
     elim (own_or_there w t (name_at w.graph page slot) lt known) [
@@ -114,8 +115,8 @@ made_here w txn t page slot lawful found free =
     name : NameParts
     name = name_at w.graph page slot
 
-    lt : IsLawfulTransaction w.graph w.freed (starts w) t
-    lt = each_in (IsLawfulTransaction w.graph w.freed (starts w)) w.transactions t lawful.orderly.transactions (found_in_list (λ (t : Transaction). t.number == txn) w.transactions t found).0
+    lt : IsLawfulTransaction w.graph w.freed t
+    lt = each_in (IsLawfulTransaction w.graph w.freed) w.transactions t lawful.orderly.transactions (found_in_list (λ (t : Transaction). t.number == txn) w.transactions t found).0
 
     at : is_at page slot (name_at w.graph page slot) ≡ true
     at = and_from (page == page) (slot == slot) (eq-eqb page page refl) (eq-eqb slot slot refl)

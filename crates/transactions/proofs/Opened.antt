@@ -3,11 +3,11 @@ use Rattle.std.proofs.Common.{◌≡◌, ℕ, ◌<◌, Bool, true, ◌||◌, ◌
 use Rattle.std.specs.List.{list_any}
 use Rattle.std.proofs.lemmas.List.{reverse-append}
 use Rattle.object_graph.specs.NameParts.{NameParts}
-use Rattle.object_graph.specs.declared.names.Object.{Object}
+use Rattle.object_graph.specs.ObjectParts.{ObjectParts}
 use Rattle.object_graph.specs.Graphs.{has_name}
 use Rattle.object_graph.proofs.Members.{In, in_any, each_in, map_in, append_left, append_right}
 use Rattle.object_graph.proofs.Paths.{has_name_in, has_object_in}
-use Rattle.store_model.specs.Worlds.{World, Transaction, find_transaction, view, starts}
+use Rattle.store_model.specs.Worlds.{World, Transaction, find_transaction, view}
 use Rattle.store_model.specs.Causes.{has_page}
 use Rattle.store_model.specs.Lawful.{IsLawfulTransaction}
 use Rattle.store_model.proofs.Orders.{IsPlacedName, lawful_one, placed_one}
@@ -43,7 +43,7 @@ not_opened s view w txn same is ready =
 pub open_member : (s : TransactionsParts) (w : World) (txn : ℕ) (e : OpenParts) (o : IsOpened s w txn e) → In o.of w.transactions
 open_member s w txn e o = (found_in_list (λ (t : Transaction). t.number == txn) w.transactions o.of o.found).0
 
-pub open_lawful : (s : TransactionsParts) (w : World) (txn : ℕ) (e : OpenParts) (o : IsOpened s w txn e) → IsLawfulTransaction w.graph w.freed (starts w) o.of
+pub open_lawful : (s : TransactionsParts) (w : World) (txn : ℕ) (e : OpenParts) (o : IsOpened s w txn e) → IsLawfulTransaction w.graph w.freed o.of
 open_lawful s w txn e o = lawful_one w o.of o.ready.lawful.orderly (open_member s w txn e o)
 
 -- an object of a known name is seen
@@ -57,7 +57,7 @@ known_placed s w txn e name o k =
       | inl own ↦ each_in (IsPlacedName w) o.of.own name (placed_one w o.of o.ready.lawful.orderly (open_member s w txn e o)) (has_name_in o.of.own name own)
       | inr there ↦
           let a = has_object_in w.graph name there in
-          subst (IsPlacedName w) a.2 (each_in (λ (x : Object). IsPlacedName w x.name) w.graph a.0 o.ready.lawful.orderly.placed a.1)
+          subst (IsPlacedName w) a.2 (each_in (λ (x : ObjectParts). IsPlacedName w x.name) w.graph a.0 o.ready.lawful.orderly.placed a.1)
     ]
 
 -- ---- it is admitted to the locks

@@ -4,10 +4,11 @@ use Rattle.std.specs.List.{slice_get}
 use Rattle.std.specs.Option.{option_map, option_and_then, unwrap_or}
 use Rattle.std.proofs.lemmas.Option.{slice_get-get_or}
 use Rattle.object_graph.specs.NameParts.{NameParts}
-use Rattle.object_graph.specs.declared.names.Object.{Object}
+use Rattle.object_graph.specs.ObjectParts.{ObjectParts}
 use Rattle.object_graph.specs.declared.calls.Call.TheVariants.{Get, Number}
 use Rattle.object_graph.specs.declared.calls.Refusal.TheVariants.{Busy, KnowsTooMany}
 use Rattle.object_graph.specs.Graphs.{has_name, object_named}
+use Rattle.object_graph.specs.declared.names.TheConstants.{OBJECT_FIELDS}
 use Rattle.store_model.specs.Worlds.{World, Transaction, nothing, view, transaction}
 use Rattle.store_model.specs.Causes.{first_met, first_refusal, when, stranger, bad_field, busy_to_read, knows_too_many_for, field_seen, number_seen}
 use Rattle.store_model.specs.Steps.{with_target, with_transaction, reads_page}
@@ -50,28 +51,28 @@ pub is_read : (s : TransactionsParts) (w : World) (txn : ℕ) (e : OpenParts) (n
 is_read s w txn e name page o known is nobody none =
     let some = read_object s w txn e name page o known is nobody in cc
 
-same_object : (a b : Object) (x : Option Object) → x ≡ Some a → x ≡ Some b → a ≡ b
+same_object : (a b : ObjectParts) (x : Option ObjectParts) → x ≡ Some a → x ≡ Some b → a ≡ b
 same_object a b x p q = cc
 
-pub read_number : (s : TransactionsParts) (w : World) (txn : ℕ) (e : OpenParts) (name : NameParts) (page : ℕ) (object : Object) → IsOpened s w txn e → has_name e.known name ≡ true
+pub read_number : (s : TransactionsParts) (w : World) (txn : ℕ) (e : OpenParts) (name : NameParts) (page : ℕ) (object : ObjectParts) → IsOpened s w txn e → has_name e.known name ≡ true
     → page ≡ name.page → IsNobody (is_in_way false s.locks.held txn page) → object_at (frame_at s.frames name.page).current name.slot ≡ Some object
     → object.number ≡ number_seen w txn name
 read_number s w txn e name page object o known is nobody found =
     let there = known_there s w txn e name o known in
-    ap (λ (x : Object). x.number) (same_object object there.object (object_at (frame_at s.frames name.page).current name.slot) found (read_object s w txn e name page o known is nobody))
-    ∙ ap (λ x. unwrap_or (option_map (λ (x : Object). x.number) x) 0) (sym (seen_object s w txn e name o known))
+    ap (λ (x : ObjectParts). x.number) (same_object object there.object (object_at (frame_at s.frames name.page).current name.slot) found (read_object s w txn e name page o known is nobody))
+    ∙ ap (λ x. unwrap_or (option_map (λ (x : ObjectParts). x.number) x) 0) (sym (seen_object s w txn e name o known))
 
-pub read_field : (s : TransactionsParts) (w : World) (txn : ℕ) (e : OpenParts) (name : NameParts) (page field : ℕ) (object : Object) (d : Option NameParts) → IsOpened s w txn e → has_name e.known name ≡ true
-    → page ≡ name.page → IsNobody (is_in_way false s.locks.held txn page) → object_at (frame_at s.frames name.page).current name.slot ≡ Some object → field < 4
+pub read_field : (s : TransactionsParts) (w : World) (txn : ℕ) (e : OpenParts) (name : NameParts) (page field : ℕ) (object : ObjectParts) (d : Option NameParts) → IsOpened s w txn e → has_name e.known name ≡ true
+    → page ≡ name.page → IsNobody (is_in_way false s.locks.held txn page) → object_at (frame_at s.frames name.page).current name.slot ≡ Some object → field < OBJECT_FIELDS
     → get_or object.refs field d ≡ field_seen w txn name field
 read_field s w txn e name page field object d o known is nobody found low =
     let there = known_there s w txn e name o known in
     let same = same_object object there.object (object_at (frame_at s.frames name.page).current name.slot) found (read_object s w txn e name page o known is nobody) in
-    let fields : length there.object.refs ≡ 4 = there_fields w o.of name there o.ready.stands.fields in
+    let fields : length there.object.refs ≡ OBJECT_FIELDS = there_fields w o.of name there o.ready.stands.fields in
     let within : field < length there.object.refs = omega arith in
-    ap (λ (x : Object). get_or x.refs field d) same
+    ap (λ (x : ObjectParts). get_or x.refs field d) same
     ∙ (sym (ap (λ x. unwrap_or x None) (slice_get-get_or there.object.refs field d within))
-    ∙ ap (option_and_then (λ (x : Object). unwrap_or (slice_get x.refs field) None)) (sym (seen_object s w txn e name o known)))
+    ∙ ap (option_and_then (λ (x : ObjectParts). unwrap_or (slice_get x.refs field) None)) (sym (seen_object s w txn e name o known)))
 
 -- ---- the causes
 
@@ -89,14 +90,14 @@ number_free s w txn e name page o known is nobody =
     ∙ (is_known s w txn e name (busy_to_read w txn name.page ∷ []) o known
     ∙ may_read s w txn name.page [] o.ready (subst (λ p. IsNobody (is_in_way false s.locks.held txn p)) is nobody))
 
-get_known : (s : TransactionsParts) (w : World) (txn : ℕ) (e : OpenParts) (name : NameParts) (field : ℕ) → IsOpened s w txn e → has_name e.known name ≡ true → field < 4
+get_known : (s : TransactionsParts) (w : World) (txn : ℕ) (e : OpenParts) (name : NameParts) (field : ℕ) → IsOpened s w txn e → has_name e.known name ≡ true → field < OBJECT_FIELDS
     → first_refusal w (Get txn name field) nothing ≡ first_met (busy_to_read w txn name.page ∷ knows_too_many_for w txn (field_seen w txn name field) ∷ [])
 get_known s w txn e name field o known low =
     let last = busy_to_read w txn name.page ∷ knows_too_many_for w txn (field_seen w txn name field) ∷ [] in
     is_open s w txn e (stranger w txn name ∷ bad_field w name field ∷ last) o
     ∙ (is_known s w txn e name (bad_field w name field ∷ last) o known ∙ is_field w name field last low)
 
-pub get_busy : (s : TransactionsParts) (w : World) (txn : ℕ) (e : OpenParts) (name : NameParts) (field page holder : ℕ) → IsOpened s w txn e → has_name e.known name ≡ true → field < 4 → page ≡ name.page
+pub get_busy : (s : TransactionsParts) (w : World) (txn : ℕ) (e : OpenParts) (name : NameParts) (field page holder : ℕ) → IsOpened s w txn e → has_name e.known name ≡ true → field < OBJECT_FIELDS → page ≡ name.page
     → IsLeast (is_in_way false s.locks.held txn page) holder → first_refusal w (Get txn name field) nothing ≡ Some (Busy holder)
 get_busy s w txn e name field page holder o known low is least =
     get_known s w txn e name field o known low
@@ -104,7 +105,7 @@ get_busy s w txn e name field page holder o known low is least =
 
 -- where the target fits, or doesn't
 pub get_full : (s : TransactionsParts) (w : World) (txn : ℕ) (e : OpenParts) (name : NameParts) (field page : ℕ) (target : Option NameParts) (b : Bool) → IsOpened s w txn e → has_name e.known name ≡ true
-    → field < 4 → page ≡ name.page → IsNobody (is_in_way false s.locks.held txn page) → target ≡ field_seen w txn name field → is_full_for e.known target ≡ b
+    → field < OBJECT_FIELDS → page ≡ name.page → IsNobody (is_in_way false s.locks.held txn page) → target ≡ field_seen w txn name field → is_full_for e.known target ≡ b
     → first_refusal w (Get txn name field) nothing ≡ when b KnowsTooMany
 get_full s w txn e name field page target b o known low is nobody seen full =
     get_known s w txn e name field o known low
@@ -126,7 +127,6 @@ pub record HasRead (s new : TransactionsParts) (txn page : ℕ) : Type 0 where
 number_here : (s new : TransactionsParts) (w : World) (txn : ℕ) (e : OpenParts) (page : ℕ) → IsOpened s w txn e → new.table ≡ s.table → HasRead s new txn page
     → Stands new (with_transaction w txn (reads_page page))
 number_here s new w txn e page o same run = record {
-  limit = o.ready.stands.limit;
   fields = o.ready.stands.fields;
   table = table_stays w new.table txn o.of (reads_page page) (subst (IsTable w) (sym same) o.ready.stands.table) o.found (λ t. refl) (λ f h. record { known = h.known; written = h.written });
   locks = locks_share w s.locks new.locks txn page (reads_page page) o.of o.ready.stands.locks o.found (λ t. refl) refl refl run.pages run.locked;
@@ -151,7 +151,6 @@ got page target u = reads_page page (record u { known = with_target target u.kno
 get_here : (s new : TransactionsParts) (w : World) (txn : ℕ) (e : OpenParts) (page : ℕ) (target : Option NameParts) → IsOpened s w txn e → ChangesEntry (NotesTarget target) txn s.table new.table → HasRead s new txn page
     → Stands new (with_transaction w txn (got page target))
 get_here s new w txn e page target o notes run = record {
-  limit = o.ready.stands.limit;
   fields = o.ready.stands.fields;
   table = table_changes w s.table new.table txn e o.of (NotesTarget target) (got page target) o.ready.stands.table o.is o.found (λ t. refl) notes (λ f h. entry_gets e f o.of target page o.entry h);
   locks = locks_share w s.locks new.locks txn page (got page target) o.of o.ready.stands.locks o.found (λ t. refl) refl refl run.pages run.locked;

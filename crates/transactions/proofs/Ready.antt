@@ -1,5 +1,5 @@
 -- What each call leaves is ready for the next.
-use Rattle.std.proofs.Common.{◌≡◌, ◌≢◌, ℕ, Bool, true, false, Option, Some, None, List, [], ◌∷◌, refl, sym, ap, ◌∙◌}
+use Rattle.std.proofs.Common.{◌≡◌, ◌≢◌, ℕ, Bool, true, false, Option, Some, None, List, [], ◌∷◌, IsTrue, refl, sym, ap, ◌∙◌}
 use Rattle.std.specs.Option.{is_some, is_none, option_map, unwrap_or, MatchOption}
 use Rattle.std.specs.List.{AllByRecursion}
 use Rattle.object_graph.specs.NameParts.{NameParts}
@@ -130,12 +130,14 @@ ready_for_some old new call reply h some steps = (after_reply some.0 call nothin
 abbrev early : World → World
 early w = record w { commits = 0; cut = None }
 
+no_truth : (b : Bool) → b ≡ false → IsTrue b → ⊥
+no_truth b is it = absurd cc
+
 early_is_ready : (s : TransactionsParts) (w : World) → IsReady s w → IsReady s (early w)
 early_is_ready s w h = record {
   lawful = record { orderly = h.lawful.orderly; freed = h.lawful.freed; lost = tt; swept = tt; doubt = undoubted w.doubt h.lawful.doubt };
   sound = h.sound;
   stands = record {
-    limit = h.stands.limit;
     fields = h.stands.fields;
     table = record { numbers = h.stands.table.numbers; each = h.stands.table.each };
     locks = record { pages = h.stands.locks.pages; admitted = h.stands.locks.admitted; shared = h.stands.locks.shared; exclusive = h.stands.locks.exclusive };
@@ -152,7 +154,7 @@ early_is_ready s w h = record {
     undoubted : (doubt : Doubt) → IsDoubtOf w doubt → IsDoubtOf (early w) doubt
     undoubted no_doubt is = tt
     undoubted (commit_in_doubt t) is = is
-    undoubted (sweep_in_doubt page) is = is
+    undoubted (sweep_in_doubt page) is = absurd (no_truth (is_some w.broken) (ap (λ (count : Option ℕ). is_some count) h.sound) is.broken)
 
 none_met : (w : World) (txn : ℕ) → w.broken ≡ None → w.commits ≡ 0 → is_some (find_transaction w txn) ≡ true → first_refusal w (Commit txn) nothing ≡ None
 none_met w txn sound first there =

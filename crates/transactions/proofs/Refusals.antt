@@ -8,7 +8,8 @@ use Rattle.object_graph.specs.declared.calls.Reply.TheVariants.{Refused}
 use Rattle.object_graph.specs.declared.calls.Refusal.{Refusal}
 use Rattle.object_graph.specs.declared.calls.Refusal.TheVariants.{NotOpen, Stranger, BadField, NoPage, Busy, TooWide, KnowsTooMany, Broken}
 use Rattle.object_graph.specs.Graphs.{has_name}
-use Rattle.store_model.specs.Limits.{most_written, most_known}
+use Rattle.object_graph.specs.declared.limits.TheConstants.{MOST_KNOWN, MOST_WRITTEN}
+use Rattle.object_graph.specs.declared.names.TheConstants.{OBJECT_FIELDS}
 use Rattle.store_model.specs.Worlds.{World, Transaction, nothing, find_transaction, transaction, fresh_transaction}
 use Rattle.store_model.specs.Causes.{first_met, first_refusal, when, holder, has_page, broken, not_open, stranger, strange_target, bad_field, no_page, busy_to_read, busy_to_write, too_wide, knows_too_many, knows_too_many_for}
 use Rattle.store_model.specs.Replies.{AllowsReply, is_free}
@@ -58,11 +59,11 @@ pub is_strange_target : (s : TransactionsParts) (w : World) (txn : ℕ) (e : Ope
 is_strange_target s w txn e None rest o is = cc
 is_strange_target s w txn e (Some target) rest o is = is_stranger s w txn e target rest o is
 
-pub is_field : (w : World) (name : NameParts) (field : ℕ) (rest : List (Option Refusal)) → field < 4 → first_met (bad_field w name field ∷ rest) ≡ first_met rest
-is_field w name field rest low = ap (λ b. first_met (when (not b) BadField ∷ rest)) (lt-ltb field 4 low)
+pub is_field : (w : World) (name : NameParts) (field : ℕ) (rest : List (Option Refusal)) → field < OBJECT_FIELDS → first_met (bad_field w name field ∷ rest) ≡ first_met rest
+is_field w name field rest low = ap (λ b. first_met (when (not b) BadField ∷ rest)) (lt-ltb field OBJECT_FIELDS low)
 
-pub is_no_field : (w : World) (name : NameParts) (field : ℕ) (rest : List (Option Refusal)) → 4 ≤ field → first_met (bad_field w name field ∷ rest) ≡ Some BadField
-is_no_field w name field rest high = ap (λ b. first_met (when (not b) BadField ∷ rest)) (le-ltb field 4 high)
+pub is_no_field : (w : World) (name : NameParts) (field : ℕ) (rest : List (Option Refusal)) → OBJECT_FIELDS ≤ field → first_met (bad_field w name field ∷ rest) ≡ Some BadField
+is_no_field w name field rest high = ap (λ b. first_met (when (not b) BadField ∷ rest)) (le-ltb field OBJECT_FIELDS high)
 
 pub is_page : (w : World) (page : ℕ) (rest : List (Option Refusal)) → page < w.pages → first_met (no_page w page ∷ rest) ≡ first_met rest
 is_page w page rest low = ap (λ b. first_met (when (not b) NoPage ∷ rest)) (lt-ltb page w.pages low)
@@ -73,24 +74,24 @@ is_no_page w page rest high = ap (λ b. first_met (when (not b) NoPage ∷ rest)
 pub wide_by : (s : TransactionsParts) (w : World) (txn : ℕ) (e : OpenParts) (page : ℕ) (b : Bool) (rest : List (Option Refusal)) → IsOpened s w txn e → is_wide e.written page ≡ b
     → first_met (too_wide w txn page ∷ rest) ≡ first_met (when b TooWide ∷ rest)
 wide_by s w txn e page b rest o is = ap (λ c. first_met (c ∷ rest))
-    (ap (λ (x : Transaction). when (nat_le most_written (length x.pages_written) && not (has_page x.pages_written page)) TooWide) (transaction_found w txn o.of o.found)
-    ∙ (ap (λ n. when (nat_le most_written n && not (has_page o.of.pages_written page)) TooWide) (sym o.entry.written.count)
-    ∙ (ap (λ b. when (nat_le most_written (length e.written) && not b) TooWide) (sym (o.entry.written.each page))
+    (ap (λ (x : Transaction). when (nat_le MOST_WRITTEN (length x.pages_written) && not (has_page x.pages_written page)) TooWide) (transaction_found w txn o.of o.found)
+    ∙ (ap (λ n. when (nat_le MOST_WRITTEN n && not (has_page o.of.pages_written page)) TooWide) (sym o.entry.written.count)
+    ∙ (ap (λ b. when (nat_le MOST_WRITTEN (length e.written) && not b) TooWide) (sym (o.entry.written.each page))
     ∙ ap (λ b. when b TooWide) is)))
 
-pub full_by : (s : TransactionsParts) (w : World) (txn : ℕ) (e : OpenParts) (b : Bool) (rest : List (Option Refusal)) → IsOpened s w txn e → nat_le 4096 (length e.known) ≡ b
+pub full_by : (s : TransactionsParts) (w : World) (txn : ℕ) (e : OpenParts) (b : Bool) (rest : List (Option Refusal)) → IsOpened s w txn e → nat_le MOST_KNOWN (length e.known) ≡ b
     → first_met (knows_too_many w txn ∷ rest) ≡ first_met (when b KnowsTooMany ∷ rest)
 full_by s w txn e b rest o is = ap (λ c. first_met (c ∷ rest))
-    (ap (λ (x : Transaction). when (nat_le most_known (length x.known)) KnowsTooMany) (transaction_found w txn o.of o.found)
-    ∙ (ap (λ n. when (nat_le most_known n) KnowsTooMany) (sym o.entry.known.count) ∙ ap (λ b. when b KnowsTooMany) is))
+    (ap (λ (x : Transaction). when (nat_le MOST_KNOWN (length x.known)) KnowsTooMany) (transaction_found w txn o.of o.found)
+    ∙ (ap (λ n. when (nat_le MOST_KNOWN n) KnowsTooMany) (sym o.entry.known.count) ∙ ap (λ b. when b KnowsTooMany) is))
 
 pub full_for_by : (s : TransactionsParts) (w : World) (txn : ℕ) (e : OpenParts) (target : Option NameParts) (b : Bool) (rest : List (Option Refusal)) → IsOpened s w txn e
     → is_full_for e.known target ≡ b → first_met (knows_too_many_for w txn target ∷ rest) ≡ first_met (when b KnowsTooMany ∷ rest)
 full_for_by s w txn e None b rest o is = ap (λ b. first_met (when b KnowsTooMany ∷ rest)) is
 full_for_by s w txn e (Some name) b rest o is = ap (λ c. first_met (c ∷ rest))
-    (ap (λ (x : Transaction). when (nat_le most_known (length x.known) && not (has_name x.known name)) KnowsTooMany) (transaction_found w txn o.of o.found)
-    ∙ (ap (λ n. when (nat_le most_known n && not (has_name o.of.known name)) KnowsTooMany) (sym o.entry.known.count)
-    ∙ (ap (λ b. when (nat_le most_known (length e.known) && not b) KnowsTooMany) (sym (o.entry.known.each name))
+    (ap (λ (x : Transaction). when (nat_le MOST_KNOWN (length x.known) && not (has_name x.known name)) KnowsTooMany) (transaction_found w txn o.of o.found)
+    ∙ (ap (λ n. when (nat_le MOST_KNOWN n && not (has_name o.of.known name)) KnowsTooMany) (sym o.entry.known.count)
+    ∙ (ap (λ b. when (nat_le MOST_KNOWN (length e.known) && not b) KnowsTooMany) (sym (o.entry.known.each name))
     ∙ ap (λ b. when b KnowsTooMany) is)))
 
 -- ---- who is in the way

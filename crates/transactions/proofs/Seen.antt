@@ -6,9 +6,9 @@ use Rattle.std.proofs.lemmas.Bool.{and_parts, and_from, cases_Bool, eqb-true, eq
 use Rattle.std.proofs.lemmas.List.Elements.{filter-append}
 use Rattle.object_graph.specs.NameParts.{NameParts}
 use Rattle.object_graph.specs.Names.{name_eq}
-use Rattle.object_graph.specs.declared.names.Object.{Object}
+use Rattle.object_graph.specs.ObjectParts.{ObjectParts}
 use Rattle.object_graph.specs.Graphs.{is_at, objects_at, has_name, has_object, object_named}
-use Rattle.store_model.specs.Worlds.{World, Transaction, view, with_writes, new_object, starts, fields_of, is_unfreed, IsHeldBy, IsOutOfReach}
+use Rattle.store_model.specs.Worlds.{World, Transaction, view, with_writes, new_object, fields_of, is_unfreed, IsHeldBy, IsOutOfReach}
 use Rattle.store_model.specs.Lawful.{HaveFields, IsOwn, IsLawfulTransaction, CountsUp, OnlyLastUnfreed, IsLawful, IsCovered, IsCoveredPath}
 use Rattle.object_graph.proofs.Members.{In, in_filter, filter_in, each_in, map_in, append_right, in_any}
 use Rattle.store_model.proofs.Reach.{name-with_writes}
@@ -27,8 +27,8 @@ nothing_in [] h = refl
 nothing_in (y ∷ ys) h = absurd (h y (inl refl))
 
 -- of a list with distinct values, at most one has a given value
-pub one_of_value : (value : Object → ℕ) (test : Object → Bool) (n : ℕ) (xs : List Object) (o : Object) → AreApart (map value xs)
-    → ((x : Object) → In x xs → test x ≡ true → value x ≡ n) → In o (filter test xs) → filter test xs ≡ o ∷ []
+pub one_of_value : (value : ObjectParts → ℕ) (test : ObjectParts → Bool) (n : ℕ) (xs : List ObjectParts) (o : ObjectParts) → AreApart (map value xs)
+    → ((x : ObjectParts) → In x xs → test x ≡ true → value x ≡ n) → In o (filter test xs) → filter test xs ≡ o ∷ []
 one_of_value value test n [] o d h m = absurd m
 one_of_value value test n (x ∷ xs) o d h m = by (λ k. one_of_value value test n xs o d.1 (λ y i. h y (inr i)) k) (test x) refl m
   where
@@ -46,7 +46,7 @@ one_of_value value test n (x ∷ xs) o d h m = by (λ k. one_of_value value test
         ]
     by ih false e k = ap (λ b. cond b (x ∷ filter test xs) (filter test xs)) e ∙ ih k
 
-pub alone_at_place : (w : World) (page slot : ℕ) (o : Object) → CountsUp w.graph → OnlyLastUnfreed w.graph w.freed
+pub alone_at_place : (w : World) (page slot : ℕ) (o : ObjectParts) → CountsUp w.graph → OnlyLastUnfreed w.graph w.freed
     → In o (unfreed_at w.graph w.freed page slot) → unfreed_at w.graph w.freed page slot ≡ o ∷ []
 alone_at_place w page slot o counts last m =
     one_of_value (λ o. o.name.generation) (is_unfreed w.freed) (length (objects_at w.graph page slot)) (objects_at w.graph page slot) o
@@ -60,21 +60,21 @@ covered_end w t first [] last p = subst (λ n. has_object w.graph n ≡ true) p.
 covered_end w t first (n ∷ ns) last p = covered_end w t n ns last p.3
 
 -- a known name is the transaction's own or one of the graph
-pub own_or_there : (w : World) (t : Transaction) (name : NameParts) → IsLawfulTransaction w.graph w.freed (starts w) t → has_name t.known name ≡ true
+pub own_or_there : (w : World) (t : Transaction) (name : NameParts) → IsLawfulTransaction w.graph w.freed t → has_name t.known name ≡ true
     → (has_name t.own name ≡ true) ⊎ (has_object w.graph name ≡ true)
-own_or_there w t name lawful known = elim (each_in (IsCovered w.graph (starts w) t) t.known name lawful.known (has_name_in t.known name known)) [
+own_or_there w t name lawful known = elim (each_in (IsCovered w.graph t) t.known name lawful.known (has_name_in t.known name known)) [
   | inl own ↦ inl own
   | inr c ↦ inr (covered_end w t c.0 c.1 name c.3)
 ]
 
 own_in_view : (w : World) (t : Transaction) (name : NameParts) → has_name t.own name ≡ true → has_object (view w t) name ≡ true
 own_in_view w t name own =
-    let o : Object = new_object w name in
+    let o : ObjectParts = new_object w name in
     in_any (λ p. name_eq p.name name) (view w t) (with_writes t.writes o)
     (map_in (with_writes t.writes) (w.graph ++ map (new_object w) t.own) o (append_right w.graph (map (new_object w) t.own) o (map_in (new_object w) t.own name (has_name_in t.own name own))))
     (subst (λ n. name_eq n name ≡ true) (sym (name-with_writes t.writes o)) (name_eq_refl name))
 
-pub known_in_view : (w : World) (t : Transaction) (name : NameParts) → IsLawfulTransaction w.graph w.freed (starts w) t → has_name t.known name ≡ true → has_object (view w t) name ≡ true
+pub known_in_view : (w : World) (t : Transaction) (name : NameParts) → IsLawfulTransaction w.graph w.freed t → has_name t.known name ≡ true → has_object (view w t) name ≡ true
 known_in_view w t name lawful known = elim (own_or_there w t name lawful known) [
   | inl own ↦ own_in_view w t name own
   | inr there ↦ name_in_view w t name there
@@ -85,13 +85,13 @@ known_unfreed w t name lawful m known = elim (cases_Bool (has_name w.freed name)
   | inr f ↦ f
   | inl freed ↦
       let out = each_in (IsOutOfReach w) w.freed name lawful.freed (has_name_in w.freed name freed) in
-      let lt = each_in (IsLawfulTransaction w.graph w.freed (starts w)) w.transactions t lawful.orderly.transactions m in
+      let lt = each_in (IsLawfulTransaction w.graph w.freed) w.transactions t lawful.orderly.transactions m in
       absurd (each_in (λ u. ¬ IsHeldBy w u name) w.transactions t out.1 m (name, known, ([], (refl, known_in_view w t name lt known))))
 ]
 
 -- the object of a known name in the transaction's view, which alone is unfreed at its place
 pub record IsThere (w : World) (t : Transaction) (name : NameParts) : Type 0 where
-  pub object : Object
+  pub object : ObjectParts
   pub named : object.name ≡ name
   pub alone : unfreed_at (view w t) w.freed name.page name.slot ≡ object ∷ []
 
@@ -105,12 +105,12 @@ unfreed_at-view w t page slot =
 pub at_own_place : (name : NameParts) → is_at name.page name.slot name ≡ true
 at_own_place name = and_from (name.page == name.page) (name.slot == name.slot) (eq-eqb name.page name.page refl) (eq-eqb name.slot name.slot refl)
 
-pub none_pass : (test : Object → Bool) (xs : List Object) → ((x : Object) → In x xs → test x ≡ false) → filter test xs ≡ []
+pub none_pass : (test : ObjectParts → Bool) (xs : List ObjectParts) → ((x : ObjectParts) → In x xs → test x ≡ false) → filter test xs ≡ []
 none_pass test [] h = refl
 none_pass test (x ∷ xs) h = ap (λ b. cond b (x ∷ filter test xs) (filter test xs)) (h x (inl refl)) ∙ none_pass test xs (λ y i. h y (inr i))
 
 -- where an own object stands, the graph has no unfreed one
-pub nothing_unfreed : (w : World) (t : Transaction) (m : NameParts) (page slot : ℕ) → IsLawfulTransaction w.graph w.freed (starts w) t → In m (filter (is_at page slot) t.own)
+pub nothing_unfreed : (w : World) (t : Transaction) (m : NameParts) (page slot : ℕ) → IsLawfulTransaction w.graph w.freed t → In m (filter (is_at page slot) t.own)
     → unfreed_at w.graph w.freed page slot ≡ []
 nothing_unfreed w t m page slot lawful i =
     let a = in_filter (is_at page slot) t.own m i in
@@ -121,7 +121,7 @@ nothing_unfreed w t m page slot lawful i =
     (subst (λ s. AllByRecursion (λ o. IsTrue (has_name w.freed o.name)) (objects_at w.graph m.page s)) (eqb-true m.slot slot b.1) own.free) in
     none_pass (is_unfreed w.freed) (objects_at w.graph page slot) (λ x j. ap not (each_in (λ o. IsTrue (has_name w.freed o.name)) (objects_at w.graph page slot) x free j))
 
-pub own_unfreed : (w : World) (t : Transaction) (m : NameParts) → IsLawful w → IsLawfulTransaction w.graph w.freed (starts w) t → In m t.own → has_name w.freed m ≡ false
+pub own_unfreed : (w : World) (t : Transaction) (m : NameParts) → IsLawful w → IsLawfulTransaction w.graph w.freed t → In m t.own → has_name w.freed m ≡ false
 own_unfreed w t m lawful lt i = elim (cases_Bool (has_name w.freed m)) [
   | inr f ↦ f
   | inl e ↦
@@ -134,18 +134,18 @@ pub known_object : (w : World) (t : Transaction) (name : NameParts) → IsLawful
 known_object w t name lawful m known =
     by (filter (is_at name.page name.slot) t.own) refl (lt.one_at_each_place name.page name.slot)
   where
-    lt : IsLawfulTransaction w.graph w.freed (starts w) t
-    lt = each_in (IsLawfulTransaction w.graph w.freed (starts w)) w.transactions t lawful.orderly.transactions m
+    lt : IsLawfulTransaction w.graph w.freed t
+    lt = each_in (IsLawfulTransaction w.graph w.freed) w.transactions t lawful.orderly.transactions m
 
     unfreed_name : has_name w.freed name ≡ false
     unfreed_name = known_unfreed w t name lawful m known
 
-    there_at : has_object w.graph name ≡ true → (o : Object) × In o (unfreed_at w.graph w.freed name.page name.slot) × (o.name ≡ name)
+    there_at : has_object w.graph name ≡ true → (o : ObjectParts) × In o (unfreed_at w.graph w.freed name.page name.slot) × (o.name ≡ name)
     there_at h =
         let a = has_object_in w.graph name h in (
           a.0,
           filter_in (is_unfreed w.freed) (objects_at w.graph name.page name.slot) a.0
-              (filter_in (λ (o : Object). is_at name.page name.slot o.name) w.graph a.0 a.1 (subst (λ (n : NameParts). is_at name.page name.slot n ≡ true) (sym a.2) (at_own_place name)))
+              (filter_in (λ (o : ObjectParts). is_at name.page name.slot o.name) w.graph a.0 a.1 (subst (λ (n : NameParts). is_at name.page name.slot n ≡ true) (sym a.2) (at_own_place name)))
               (ap not (ap (has_name w.freed) a.2 ∙ unfreed_name)),
           a.2,
         )
@@ -199,12 +199,12 @@ object_found w t name there free =
     ∙ (ap (find named) there.alone
     ∙ ap (λ b. cond b (Some there.object) None) (subst (λ n. name_eq n name ≡ true) (sym there.named) (name_eq_refl name))))
   where
-    named : Object → Bool
+    named : ObjectParts → Bool
     named o = name_eq o.name name
 
 -- and it has the references of its page
 pub there_fields : (w : World) (t : Transaction) (name : NameParts) (there : IsThere w t name) → HaveFields (fields_of w) w.graph → length there.object.refs ≡ fields_of w there.object.name.page
 there_fields w t name there h =
     let a = in_filter (is_unfreed w.freed) (objects_at (view w t) name.page name.slot) there.object (subst (λ os. In there.object os) (sym there.alone) (inl refl)) in
-    let b = in_filter (λ (o : Object). is_at name.page name.slot o.name) (view w t) there.object a.0 in
-    each_in (λ (o : Object). length o.refs ≡ fields_of w o.name.page) (view w t) there.object (view_has_fields w t h) b.0
+    let b = in_filter (λ (o : ObjectParts). is_at name.page name.slot o.name) (view w t) there.object a.0 in
+    each_in (λ (o : ObjectParts). length o.refs ≡ fields_of w o.name.page) (view w t) there.object (view_has_fields w t h) b.0

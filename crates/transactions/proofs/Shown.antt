@@ -4,7 +4,7 @@ use Rattle.std.proofs.lemmas.Bool.{cases_eq}
 use Rattle.std.proofs.lemmas.List.{same_lists, length-set}
 use Rattle.object_graph.specs.NameParts.{NameParts}
 use Rattle.object_graph.specs.SlotParts.{SlotParts}
-use Rattle.object_graph.specs.declared.names.Object.{Object}
+use Rattle.object_graph.specs.ObjectParts.{ObjectParts}
 use Rattle.object_graph.specs.Slots.{below}
 use Rattle.store_model.specs.Images.{shown_slot, shown_of}
 use Rattle.store_model.proofs.Flats.{length-map_below, get-map_below}
@@ -27,31 +27,31 @@ set-over f g n k x h is others =
 
 -- ---- the image
 
-pub length-shown : (slots fields : ℕ) (graph : List Object) (freed : List NameParts) (page : ℕ) → length (shown_of slots fields graph freed page) ≡ slots
+pub length-shown : (slots fields : ℕ) (graph : List ObjectParts) (freed : List NameParts) (page : ℕ) → length (shown_of slots fields graph freed page) ≡ slots
 unfolding shown_of
 length-shown slots fields graph freed page = length-map_below (shown_slot fields graph freed page) slots
 
-pub get-shown : (slots fields : ℕ) (graph : List Object) (freed : List NameParts) (page slot : ℕ) (d : SlotParts) → slot < slots
+pub get-shown : (slots fields : ℕ) (graph : List ObjectParts) (freed : List NameParts) (page slot : ℕ) (d : SlotParts) → slot < slots
     → get_or (shown_of slots fields graph freed page) slot d ≡ shown_slot fields graph freed page slot
 unfolding shown_of
 get-shown slots fields graph freed page slot d lt = get-map_below (shown_slot fields graph freed page) slots slot d lt
 
 -- an image that has these slots
-pub shown_from : (slots fields : ℕ) (graph : List Object) (freed : List NameParts) (page : ℕ) (image : List SlotParts) → length image ≡ slots
+pub shown_from : (slots fields : ℕ) (graph : List ObjectParts) (freed : List NameParts) (page : ℕ) (image : List SlotParts) → length image ≡ slots
     → ((slot : ℕ) (d : SlotParts) → slot < slots → get_or image slot d ≡ shown_slot fields graph freed page slot) → image ≡ shown_of slots fields graph freed page
 shown_from slots fields graph freed page image count each =
     same_lists image (shown_of slots fields graph freed page) (count ∙ sym (length-shown slots fields graph freed page))
     (λ slot d lt. let low : slot < slots = omega arith in each slot d low ∙ sym (get-shown slots fields graph freed page slot d low))
 
 -- two images with the same slots
-pub same_shown : (slots fields : ℕ) (one two : List Object) (freed freed2 : List NameParts) (page : ℕ)
+pub same_shown : (slots fields : ℕ) (one two : List ObjectParts) (freed freed2 : List NameParts) (page : ℕ)
     → ((slot : ℕ) → slot < slots → shown_slot fields one freed page slot ≡ shown_slot fields two freed2 page slot) → shown_of slots fields one freed page ≡ shown_of slots fields two freed2 page
 same_shown slots fields one two freed freed2 page each =
     shown_from slots fields two freed2 page (shown_of slots fields one freed page) (length-shown slots fields one freed page)
     (λ slot d lt. get-shown slots fields one freed page slot d lt ∙ each slot lt)
 
 -- an image of which one slot differs
-pub set-shown : (slots fields : ℕ) (old new : List Object) (freed : List NameParts) (page slot : ℕ) (x : SlotParts) → slot < slots
+pub set-shown : (slots fields : ℕ) (old new : List ObjectParts) (freed : List NameParts) (page slot : ℕ) (x : SlotParts) → slot < slots
     → shown_slot fields new freed page slot ≡ x → ((j : ℕ) → j < slots → j ≢ slot → shown_slot fields new freed page j ≡ shown_slot fields old freed page j)
     → set (shown_of slots fields old freed page) slot x ≡ shown_of slots fields new freed page
 unfolding shown_of

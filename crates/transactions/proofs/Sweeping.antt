@@ -9,12 +9,13 @@ use Rattle.std.proofs.lemmas.List.FromFn.{get_or-map-range_with_len, length-map-
 use Rattle.object_graph.specs.NameParts.{NameParts}
 use Rattle.object_graph.specs.SlotParts.{SlotParts}
 use Rattle.object_graph.specs.Names.{name_eq}
-use Rattle.object_graph.specs.declared.names.Object.{Object}
+use Rattle.object_graph.specs.ObjectParts.{ObjectParts}
 use Rattle.object_graph.specs.Graphs.{is_at, objects_at, has_name}
 use Rattle.object_graph.specs.Slots.{has_slot}
 use Rattle.object_graph.proofs.Members.{In, in_filter, filter_in, in_map, map_in, or_left, or_right}
 use Rattle.object_graph.proofs.Paths.{has_name_in, in_has_name}
-use Rattle.store_model.specs.Worlds.{World, Transaction, find_transaction, transaction, fresh_transaction, is_unfreed, unfreed, view, with_writes, new_object, starts, slots_of, fields_of}
+use Rattle.object_graph.specs.declared.names.TheConstants.{OBJECT_FIELDS}
+use Rattle.store_model.specs.Worlds.{World, Transaction, find_transaction, transaction, fresh_transaction, is_unfreed, unfreed, view, with_writes, new_object, slots_of, fields_of}
 use Rattle.store_model.specs.Causes.{has_page}
 use Rattle.store_model.specs.Images.{unfreed_at, slot_with, shown_slot, shown_in}
 use Rattle.store_model.specs.Lawful.{IsLawfulTransaction, IsOrderly}
@@ -51,7 +52,7 @@ gone_name w page slots name h =
     (ap (λ (n : NameParts). n.page) a.5 ∙ a.3, ap (λ (n : NameParts). has_slot slots n.slot) a.5 ∙ a.4)
 
 -- elsewhere nothing goes
-slot_away : (w : World) (page slots fields p slot : ℕ) (graph : List Object) → ((p ≡ page) × (has_slot slots slot ≡ true) → ⊥)
+slot_away : (w : World) (page slots fields p slot : ℕ) (graph : List ObjectParts) → ((p ≡ page) × (has_slot slots slot ≡ true) → ⊥)
     → shown_slot fields graph (names_in w page slots ++ w.freed) p slot ≡ shown_slot fields graph w.freed p slot
 slot_away w page slots fields p slot graph away =
     ap (λ us. slot_with fields us (length (objects_at graph p slot)))
@@ -63,26 +64,26 @@ slot_away w page slots fields p slot graph away =
     away (sym k.0 ∙ a.0, ap (has_slot slots) (sym k.1) ∙ a.1))))))
 
 -- the unfreed objects at a place go, and each has the last generation there
-pub record AllGo (w : World) (page slots slot : ℕ) (graph : List Object) : Type 0 where
-  pub named : (o : Object) → In o (unfreed_at graph w.freed page slot) → has_name (names_in w page slots) o.name ≡ true
-  pub last : (o : Object) → In o (unfreed_at graph w.freed page slot) → o.name.generation ≡ length (objects_at graph page slot)
+pub record AllGo (w : World) (page slots slot : ℕ) (graph : List ObjectParts) : Type 0 where
+  pub named : (o : ObjectParts) → In o (unfreed_at graph w.freed page slot) → has_name (names_in w page slots) o.name ≡ true
+  pub last : (o : ObjectParts) → In o (unfreed_at graph w.freed page slot) → o.name.generation ≡ length (objects_at graph page slot)
 
-slot_here : (w : World) (page slots slot : ℕ) (graph : List Object) → AllGo w page slots slot graph
+slot_here : (w : World) (page slots slot : ℕ) (graph : List ObjectParts) → AllGo w page slots slot graph
     → shown_slot (fields_of w page) graph (names_in w page slots ++ w.freed) page slot ≡ freed (shown_slot (fields_of w page) graph w.freed page slot)
 slot_here w page slots slot graph h =
-    ap (λ us. slot_with 4 us (length (objects_at graph page slot))) (none_pass (is_unfreed (names_in w page slots ++ w.freed)) (objects_at graph page slot) gone)
+    ap (λ us. slot_with OBJECT_FIELDS us (length (objects_at graph page slot))) (none_pass (is_unfreed (names_in w page slots ++ w.freed)) (objects_at graph page slot) gone)
     ∙ left (unfreed_at graph w.freed page slot) h.last
   where
-    gone : (o : Object) → In o (objects_at graph page slot) → is_unfreed (names_in w page slots ++ w.freed) o ≡ false
+    gone : (o : ObjectParts) → In o (objects_at graph page slot) → is_unfreed (names_in w page slots ++ w.freed) o ≡ false
     gone o m = ap not (has_name-append (names_in w page slots) w.freed o.name ∙ elim (cases_Bool (has_name w.freed o.name)) [
       | inl e ↦ or_right (has_name (names_in w page slots) o.name) (has_name w.freed o.name) e
       | inr e ↦ or_left (has_name (names_in w page slots) o.name) (has_name w.freed o.name) (h.named o (filter_in (is_unfreed w.freed) (objects_at graph page slot) o m (ap not e)))
     ])
 
-    left : (us : List Object) → ((o : Object) → In o us → o.name.generation ≡ length (objects_at graph page slot))
-        → slot_with 4 [] (length (objects_at graph page slot)) ≡ freed (slot_with 4 us (length (objects_at graph page slot)))
+    left : (us : List ObjectParts) → ((o : ObjectParts) → In o us → o.name.generation ≡ length (objects_at graph page slot))
+        → slot_with OBJECT_FIELDS [] (length (objects_at graph page slot)) ≡ freed (slot_with OBJECT_FIELDS us (length (objects_at graph page slot)))
     left [] last = refl
-    left (o ∷ os) last = ap (λ n. slot_with 4 [] n) (sym (last o (inl refl)))
+    left (o ∷ os) last = ap (λ n. slot_with OBJECT_FIELDS [] n) (sym (last o (inl refl)))
 
 -- so it is with the graph
 graph_goes : (w : World) (page slots slot : ℕ) → IsOrderly w → has_slot slots slot ≡ true → AllGo w page slots slot w.graph
@@ -92,7 +93,7 @@ graph_goes w page slots slot orderly on = record {
       let b = in_filter (λ o. is_at page slot o.name) w.graph o a.0 in
       let k = place_of page slot w.graph o a.0 in
       in_has_name (names_in w page slots) o.name
-      (map_in (λ (o : Object). o.name) (filter (λ o. (o.name.page == page) && has_slot slots o.name.slot) (unfreed w)) o
+      (map_in (λ (o : ObjectParts). o.name) (filter (λ o. (o.name.page == page) && has_slot slots o.name.slot) (unfreed w)) o
       (filter_in (λ o. (o.name.page == page) && has_slot slots o.name.slot) (unfreed w) o (filter_in (is_unfreed w.freed) w.graph o b.0 a.1)
       (and_from (o.name.page == page) (has_slot slots o.name.slot) (eq-eqb o.name.page page k.0) (ap (has_slot slots) k.1 ∙ on))));
   last = λ o m. last_at w.graph w.freed page slot o orderly.last m;
@@ -114,10 +115,10 @@ view_goes w t page slots slot orderly on none = record {
         ∙ (ap (λ ns. map (with_writes t.writes) (unfreed_at w.graph w.freed page slot ++ filter (is_unfreed w.freed) (map (new_object w) ns))) none
         ∙ ap (map (with_writes t.writes)) (append-nil (unfreed_at w.graph w.freed page slot)))
 
-    under : (o : Object) → In o (unfreed_at (view w t) w.freed page slot) → (a : Object) × In a (unfreed_at w.graph w.freed page slot) × (o.name ≡ a.name)
+    under : (o : ObjectParts) → In o (unfreed_at (view w t) w.freed page slot) → (a : ObjectParts) × In a (unfreed_at w.graph w.freed page slot) × (o.name ≡ a.name)
     under o m =
         let a = in_map (with_writes t.writes) (unfreed_at w.graph w.freed page slot) o (subst (λ os. In o os) unfreed_is m) in
-        (a.0, a.1, ap (λ (x : Object). x.name) a.2 ∙ name-with_writes t.writes a.0)
+        (a.0, a.1, ap (λ (x : ObjectParts). x.name) a.2 ∙ name-with_writes t.writes a.0)
 
     count : length (objects_at (view w t) page slot) ≡ length (objects_at w.graph page slot)
     count =
@@ -126,7 +127,7 @@ view_goes w t page slots slot orderly on none = record {
         ∙ (ap (λ ns. length (objects_at w.graph page slot ++ map (new_object w) ns)) none ∙ ap length (append-nil (objects_at w.graph page slot))))
 
 -- where an object is in use, no transaction has an own one
-used_is_not_own : (w : World) (t : Transaction) (page slot fields : ℕ) → IsLawfulTransaction w.graph w.freed (starts w) t → (shown_slot fields w.graph w.freed page slot).in_use ≡ true
+used_is_not_own : (w : World) (t : Transaction) (page slot fields : ℕ) → IsLawfulTransaction w.graph w.freed t → (shown_slot fields w.graph w.freed page slot).in_use ≡ true
     → filter (is_at page slot) t.own ≡ []
 used_is_not_own w t page slot fields lawful used = nothing_in (filter (is_at page slot) t.own) (λ n m.
     let z : (shown_slot fields w.graph w.freed page slot).in_use ≡ false =
@@ -139,7 +140,7 @@ used_is_not_own w t page slot fields lawful used = nothing_in (filter (is_at pag
 abbrev pub AreUsed : World → ℕ → ℕ → Type 0
 AreUsed w page slots = (slot : ℕ) → slot < slots_of w page → has_slot slots slot ≡ true → (shown_slot (fields_of w page) w.graph w.freed page slot).in_use ≡ true
 
-page_goes : (w : World) (page slots : ℕ) (graph : List Object) → ((slot : ℕ) → slot < slots_of w page → has_slot slots slot ≡ true → AllGo w page slots slot graph)
+page_goes : (w : World) (page slots : ℕ) (graph : List ObjectParts) → ((slot : ℕ) → slot < slots_of w page → has_slot slots slot ≡ true → AllGo w page slots slot graph)
     → freed_page slots (image_in w graph page) ≡ image_in (swept w page slots) graph page
 page_goes w page slots graph h =
     ap (λ xs. record { number = page; slots = xs })
@@ -150,10 +151,10 @@ page_goes w page slots graph h =
     get_or-map-range_with_len freed_at 0 (length (shown_in w graph page)) slot slot d within zero
     ∙ (ap (slot_freed slots slot) (get-shown (slots_of w page) (fields_of w page) graph w.freed page slot fresh_slot lt)
     ∙ elim (cases_Bool (has_slot slots slot)) [
-      | inl on ↦ ap (λ b. cond b (freed (shown_slot 4 graph w.freed page slot)) (shown_slot 4 graph w.freed page slot)) on ∙ sym (slot_here w page slots slot graph (h slot lt on))
+      | inl on ↦ ap (λ b. cond b (freed (shown_slot OBJECT_FIELDS graph w.freed page slot)) (shown_slot OBJECT_FIELDS graph w.freed page slot)) on ∙ sym (slot_here w page slots slot graph (h slot lt on))
       | inr off ↦
-          ap (λ b. cond b (freed (shown_slot 4 graph w.freed page slot)) (shown_slot 4 graph w.freed page slot)) off
-          ∙ sym (slot_away w page slots 4 page slot graph (λ k. let y = k.1 in cc))
+          ap (λ b. cond b (freed (shown_slot OBJECT_FIELDS graph w.freed page slot)) (shown_slot OBJECT_FIELDS graph w.freed page slot)) off
+          ∙ sym (slot_away w page slots OBJECT_FIELDS page slot graph (λ k. let y = k.1 in cc))
     ])))
   where
     freed_at : ℕ → SlotParts
@@ -162,7 +163,7 @@ page_goes w page slots graph h =
     count : length (shown_in w graph page) ≡ slots_of w page
     count = length-shown (slots_of w page) (fields_of w page) graph w.freed page
 
-page_away : (w : World) (page slots p : ℕ) (graph : List Object) → p ≢ page → image_in w graph p ≡ image_in (swept w page slots) graph p
+page_away : (w : World) (page slots p : ℕ) (graph : List ObjectParts) → p ≢ page → image_in w graph p ≡ image_in (swept w page slots) graph p
 page_away w page slots p graph ne =
     ap (λ xs. record { number = p; slots = xs })
     (sym (same_shown (slots_of w p) (fields_of w p) graph graph (names_in w page slots ++ w.freed) w.freed p (λ slot lt. slot_away w page slots (fields_of w p) p slot graph (λ k. ne k.0))))
@@ -170,15 +171,15 @@ page_away w page slots p graph ne =
 -- ---- the frames
 
 -- who wrote a page is open
-writer_lawful : (w : World) (u page : ℕ) → IsOrderly w → wrote w u page ≡ true → IsLawfulTransaction w.graph w.freed (starts w) (transaction w u)
+writer_lawful : (w : World) (u page : ℕ) → IsOrderly w → wrote w u page ≡ true → IsLawfulTransaction w.graph w.freed (transaction w u)
 writer_lawful w u page orderly e = by (find_transaction w u) refl
   where
-    by : (o : Option Transaction) → find_transaction w u ≡ o → IsLawfulTransaction w.graph w.freed (starts w) (transaction w u)
+    by : (o : Option Transaction) → find_transaction w u ≡ o → IsLawfulTransaction w.graph w.freed (transaction w u)
     by None q =
         let z : wrote w u page ≡ false = ap (λ o. has_page (unwrap_or o (fresh_transaction u)).pages_written page) q in
         let y : true ≡ false = sym e ∙ z in cc
     by (Some t) q =
-        subst (IsLawfulTransaction w.graph w.freed (starts w)) (sym (transaction_found w u t q))
+        subst (IsLawfulTransaction w.graph w.freed) (sym (transaction_found w u t q))
         (lawful_one w t orderly (found_in_list (λ (t : Transaction). t.number == u) w.transactions t q).0)
 
 frame_swept : (w : World) (page slots : ℕ) (frame : Frame) → IsOrderly w → AreUsed w page slots → IsFrameOf w page frame → IsFrameOf (swept w page slots) page (freed_frame slots frame)
@@ -228,7 +229,6 @@ pub sweep_stands : (s new : TransactionsParts) (w : World) (page slots : ℕ) �
     → ((slot : ℕ) → has_slot slots slot ≡ true → (slot_at (frame_at s.frames page).before slot).in_use ≡ true)
     → new ≡ record s { frames = with_frame s.frames page (freed_frame slots (frame_at s.frames page)) } → Stands new (swept w page slots)
 sweep_stands s new w page slots r low used is = subst (λ x. Stands x (swept w page slots)) (sym is) (record {
-  limit = r.stands.limit;
   fields = r.stands.fields;
   table = record { numbers = r.stands.table.numbers; each = r.stands.table.each };
   locks = record { pages = r.stands.locks.pages; admitted = r.stands.locks.admitted; shared = r.stands.locks.shared; exclusive = r.stands.locks.exclusive };

@@ -6,7 +6,7 @@ use Rattle.std.proofs.lemmas.List.Elements.{filter-append}
 use Rattle.std.proofs.lemmas.List.{length-map}
 use Rattle.object_graph.specs.NameParts.{NameParts}
 use Rattle.object_graph.specs.Names.{name_eq}
-use Rattle.object_graph.specs.declared.names.Object.{Object}
+use Rattle.object_graph.specs.ObjectParts.{ObjectParts}
 use Rattle.object_graph.specs.Graphs.{is_at, objects_at, has_name}
 use Rattle.store_model.specs.Worlds.{World, Transaction, Write, link, assign, view, with_writes, written_by, new_object, is_unfreed}
 use Rattle.store_model.specs.Images.{unfreed_at, shown_slot, slot_with}
@@ -27,17 +27,17 @@ filter-map_kept p f e (x ∷ xs) =
     one p f x xs h true = ap (λ ys. f x ∷ ys) h
     one p f x xs h false = h
 
-abbrev pub KeepsNames : (Object → Object) → Type 0
-KeepsNames f = (o : Object) → (f o).name ≡ o.name
+abbrev pub KeepsNames : (ObjectParts → ObjectParts) → Type 0
+KeepsNames f = (o : ObjectParts) → (f o).name ≡ o.name
 
-pub unfreed_at-map : (f : Object → Object) (graph : List Object) (freed : List NameParts) (page slot : ℕ) → KeepsNames f
+pub unfreed_at-map : (f : ObjectParts → ObjectParts) (graph : List ObjectParts) (freed : List NameParts) (page slot : ℕ) → KeepsNames f
     → unfreed_at (map f graph) freed page slot ≡ map f (unfreed_at graph freed page slot)
 unfreed_at-map f graph freed page slot kept =
     ap (filter (is_unfreed freed)) (objects_at-map f graph page slot kept)
     ∙ filter-map_kept (is_unfreed freed) f (λ o. ap (λ n. not (has_name freed n)) (kept o)) (objects_at graph page slot)
 
 -- a slot as a changed graph has it
-pub shown_slot-map : (fields : ℕ) (f : Object → Object) (graph : List Object) (freed : List NameParts) (page slot : ℕ) → KeepsNames f
+pub shown_slot-map : (fields : ℕ) (f : ObjectParts → ObjectParts) (graph : List ObjectParts) (freed : List NameParts) (page slot : ℕ) → KeepsNames f
     → shown_slot fields (map f graph) freed page slot
     ≡ slot_with fields (map f (unfreed_at graph freed page slot)) (length (objects_at graph page slot))
 shown_slot-map fields f graph freed page slot kept =
@@ -63,11 +63,11 @@ abbrev pub written_name : Write → NameParts
 written_name (link name field target) = name
 written_name (assign name value) = name
 
-pub written_by_other : (write : Write) (o : Object) → name_eq o.name (written_name write) ≡ false → written_by write o ≡ o
+pub written_by_other : (write : Write) (o : ObjectParts) → name_eq o.name (written_name write) ≡ false → written_by write o ≡ o
 written_by_other (link name field target) o e = cond-false (name_eq o.name name) (record o { refs = slice_set o.refs field target }) o e
 written_by_other (assign name value) o e = cond-false (name_eq o.name name) (record o { number = value }) o e
 
-pub place_of : (page slot : ℕ) (graph : List Object) (o : Object) → In o (objects_at graph page slot) → (o.name.page ≡ page) × (o.name.slot ≡ slot)
+pub place_of : (page slot : ℕ) (graph : List ObjectParts) (o : ObjectParts) → In o (objects_at graph page slot) → (o.name.page ≡ page) × (o.name.slot ≡ slot)
 place_of page slot graph o m =
     let a = in_filter (λ o. is_at page slot o.name) graph o m in
     let b = and_parts (o.name.page == page) (o.name.slot == slot) a.1 in
@@ -77,7 +77,7 @@ other_name : (a b : NameParts) → (a ≡ b → ⊥) → name_eq a b ≡ false
 other_name a b ne = elim (cases_Bool (name_eq a b)) [ inl t ↦ absurd (ne (name_eq_same a b t)) | inr f ↦ f ]
 
 -- a write elsewhere leaves a place as it is shown
-pub write_elsewhere : (fields : ℕ) (write : Write) (graph : List Object) (freed : List NameParts) (page slot : ℕ)
+pub write_elsewhere : (fields : ℕ) (write : Write) (graph : List ObjectParts) (freed : List NameParts) (page slot : ℕ)
     → (((written_name write).page ≡ page) × ((written_name write).slot ≡ slot) → ⊥)
     → shown_slot fields (map (written_by write) graph) freed page slot ≡ shown_slot fields graph freed page slot
 write_elsewhere fields write graph freed page slot off =
@@ -89,7 +89,7 @@ write_elsewhere fields write graph freed page slot off =
     off (sym (ap (λ (n : NameParts). n.page) e) ∙ k.0, sym (ap (λ (n : NameParts). n.slot) e) ∙ k.1)))))
 
 -- a write shows at the place of its object, which alone is unfreed there
-pub write_here : (fields : ℕ) (write : Write) (graph : List Object) (freed : List NameParts) (o : Object) (page slot : ℕ)
+pub write_here : (fields : ℕ) (write : Write) (graph : List ObjectParts) (freed : List NameParts) (o : ObjectParts) (page slot : ℕ)
     → unfreed_at graph freed page slot ≡ o ∷ []
     → shown_slot fields (map (written_by write) graph) freed page slot
     ≡ slot_with fields (written_by write o ∷ []) (length (objects_at graph page slot))
@@ -116,6 +116,6 @@ objects_at-view w t page slot =
         one w n ns page slot h false = h
 
 -- the view has at a place what it is shown to have, if the graphs of two worlds agree there
-pub shown_from_place : (fields : ℕ) (one two : List Object) (freed : List NameParts) (page slot : ℕ)
+pub shown_from_place : (fields : ℕ) (one two : List ObjectParts) (freed : List NameParts) (page slot : ℕ)
     → objects_at one page slot ≡ objects_at two page slot → shown_slot fields one freed page slot ≡ shown_slot fields two freed page slot
 shown_from_place fields one two freed page slot e = ap (λ os. slot_with fields (filter (is_unfreed freed) os) (length os)) e

@@ -3,6 +3,8 @@ use Rattle.std.proofs.Common.{◌≡◌, ℕ, ◌<◌, Bool, true, false, List, 
 use Rattle.object_graph.specs.declared.calls.Call.TheVariants.{Put, Set}
 use Rattle.object_graph.specs.declared.calls.Refusal.{Refusal}
 use Rattle.object_graph.specs.declared.calls.Refusal.TheVariants.{Busy, TooWide}
+use Rattle.object_graph.specs.declared.names.TheConstants.{OBJECT_FIELDS}
+use Rattle.object_graph.specs.declared.sizes.TheConstants.{SLOTS_PER_PAGE}
 use Rattle.store_model.specs.Causes.{first_met, first_refusal, when, stranger, strange_target, bad_field, busy_to_write, too_wide}
 use Rattle.object_graph.specs.NameParts.{NameParts}
 use Rattle.object_graph.specs.SlotParts.{SlotParts}
@@ -51,7 +53,7 @@ known_image s w to_write txn e name o known nobody =
 pub record IsSlotOf (image : PageParts) (slot : ℕ) : Type 0 where
   pub within : slot < length image.slots
   pub used : (slot_at image slot).in_use ≡ true
-  pub fields : length (slot_at image slot).refs ≡ 4
+  pub fields : length (slot_at image slot).refs ≡ OBJECT_FIELDS
 
 pub known_slot : (s : TransactionsParts) (w : World) (to_write : Bool) (txn : ℕ) (e : OpenParts) (name : NameParts) (page slot : ℕ) → IsOpened s w txn e → has_name e.known name ≡ true
     → page ≡ name.page → slot ≡ name.slot → IsNobody (is_in_way to_write s.locks.held txn page) → IsSlotOf (frame_at s.frames page).current slot
@@ -61,7 +63,7 @@ known_slot s w to_write txn e name page slot o known page_is slot_is nobody =
     let here = slot_of_known w o.of name fresh_slot there placed.1 in
     subst (λ p. IsSlotOf (frame_at s.frames p).current slot) (sym page_is) (subst (λ n. IsSlotOf (frame_at s.frames name.page).current n) (sym slot_is)
     (subst (λ i. IsSlotOf i name.slot) (sym image) (record {
-      within = let n : length (shown_in w (view w o.of) name.page) ≡ 20 = length-shown (slots_of w name.page) (fields_of w name.page) (view w o.of) w.freed name.page in let p : name.slot < 20 = placed.1 in omega arith;
+      within = let n : length (shown_in w (view w o.of) name.page) ≡ SLOTS_PER_PAGE = length-shown (slots_of w name.page) (fields_of w name.page) (view w o.of) w.freed name.page in let p : name.slot < SLOTS_PER_PAGE = placed.1 in omega arith;
       used = ap (λ (x : SlotParts). x.in_use) here;
       fields = ap (λ (x : SlotParts). length x.refs) here ∙ there_fields w o.of name there o.ready.stands.fields;
     })))
@@ -81,7 +83,7 @@ put_known s w txn e name value o known =
     is_open s w txn e (stranger w txn name ∷ from_page w txn name) o ∙ is_known s w txn e name (from_page w txn name) o known
 
 pub set_known : (s : TransactionsParts) (w : World) (txn : ℕ) (e : OpenParts) (name : NameParts) (field : ℕ) (target : Option NameParts) → IsOpened s w txn e → has_name e.known name ≡ true
-    → knows_target e.known target ≡ true → field < 4 → first_refusal w (Set txn name field target) nothing ≡ first_met (from_page w txn name)
+    → knows_target e.known target ≡ true → field < OBJECT_FIELDS → first_refusal w (Set txn name field target) nothing ≡ first_met (from_page w txn name)
 set_known s w txn e name field target o known known_target low =
     is_open s w txn e (stranger w txn name ∷ strange_target w txn target ∷ bad_field w name field ∷ from_page w txn name) o
     ∙ (is_known s w txn e name (strange_target w txn target ∷ bad_field w name field ∷ from_page w txn name) o known
@@ -138,7 +140,6 @@ stands_here : (s new : TransactionsParts) (w : World) (txn : ℕ) (e : OpenParts
     → HasWritten s new txn (written_name write).page (written_name write).slot write
     → Stands new (with_transaction w txn (writes write (written_name write).page))
 stands_here s new w txn e write o known run = record {
-  limit = o.ready.stands.limit;
   fields = o.ready.stands.fields;
   table = table_changes w s.table new.table txn e o.of (NotesPage page) change o.ready.stands.table o.is o.found (λ t. refl) run.noted (λ f h. entry_writes e f o.of write page o.entry h);
   locks = locks_exclude w s.locks new.locks txn page change o.of o.ready.stands.locks o.found (λ t. refl) refl refl run.pages run.locked;

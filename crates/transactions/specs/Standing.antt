@@ -1,8 +1,8 @@
 -- Which world the open transactions stand for.
-use Rattle.std.specs.Prelude.{◌≡◌, ℕ, ◌<◌, Bool, true, false, Option, Some, None, List, map, reverse, length, slice_get, IsTrue}
+use Rattle.std.specs.Prelude.{◌≡◌, ℕ, ◌<◌, Bool, true, false, Option, Some, None, List, [], map, reverse, length, slice_get, IsTrue}
 use Rattle.std.specs.Map.{keys_of}
 use Rattle.object_graph.specs.SlotParts.{SlotParts}
-use Rattle.object_graph.specs.declared.names.Object.{Object}
+use Rattle.object_graph.specs.ObjectParts.{ObjectParts}
 use Rattle.store_model.specs.Worlds.{World, Transaction, fields_of, find_transaction, transaction, view}
 use Rattle.store_model.specs.Causes.{has_page}
 use Rattle.store_model.specs.Images.{shown_in}
@@ -10,7 +10,7 @@ use Rattle.store_model.specs.Lawful.{HaveFields, IsLawful}
 use Rattle.page_image.specs.Pages.{PageParts}
 use Rattle.page_buffer.specs.Frames.{clean_frame, frame_at}
 use Rattle.page_buffer.specs.declared.frame.Frame.{Frame}
-use Rattle.page_locks.specs.Holding.{LockTable, most_admitted, numbers, shares, excludes}
+use Rattle.page_locks.specs.Holding.{LockTable, numbers, shares, excludes}
 use Rattle.transactions.specs.Tables.{OpenParts, Entries, entry_of, HaveSamePages, HaveSameNames}
 
 -- the images of pages, as a world shows them
@@ -59,7 +59,7 @@ pub record AreLocks (w : World) (locks : LockTable) : Type 0 where
   pub exclusive : (txn page : ℕ) → excludes locks.held txn page ≡ wrote w txn page
 
 -- the image of a page as a graph has it
-abbrev pub image_in : World → List Object → ℕ → PageParts
+abbrev pub image_in : World → List ObjectParts → ℕ → PageParts
 image_in w graph page = record { number = page; slots = shown_in w graph page }
 
 -- The frame of a page: the committed image shows the graph. Where a transaction wrote the page, the frame is dirty
@@ -78,7 +78,6 @@ pub record AreFramesOf (w : World) (frames : List Frame) : Type 0 where
 
 -- the transactions stand for the world
 pub record Stands (s : TransactionsParts) (w : World) : Type 0 where
-  pub limit : w.open_limit ≡ most_admitted
   pub fields : HaveFields (fields_of w) w.graph
   pub table : IsTable w s.table
   pub locks : AreLocks w s.locks
@@ -92,3 +91,18 @@ pub record IsReady (s : TransactionsParts) (w : World) : Type 0 where
 
 abbrev pub IsReadyForSome : TransactionsParts → Type 0
 IsReadyForSome s = (w : World) × IsReady s w
+
+-- nothing that transactions see differs: the pages, the graph, what was freed and who is open
+pub record IsSameToThem (w v : World) : Type 0 where
+  pub pages : v.pages ≡ w.pages
+  pub graph : v.graph ≡ w.graph
+  pub freed : v.freed ≡ w.freed
+  pub transactions : v.transactions ≡ w.transactions
+
+-- with no transaction open, the worlds show the same images
+pub record ShowsTheSame (w v : World) : Type 0 where
+  pub pages : v.pages ≡ w.pages
+  pub fields : HaveFields (fields_of v) v.graph
+  pub idle : w.transactions ≡ []
+  pub idle_too : v.transactions ≡ []
+  pub each : (page : ℕ) → page < w.pages → shown_in v v.graph page ≡ shown_in w w.graph page

@@ -4,7 +4,7 @@ use Rattle.std.specs.Map.{keys_of, lookup}
 use Rattle.object_graph.specs.NameParts.{NameParts}
 use Rattle.object_graph.specs.Names.{root_name}
 use Rattle.object_graph.specs.Graphs.{has_name}
-use Rattle.store_model.specs.Limits.{most_written, most_known}
+use Rattle.object_graph.specs.declared.limits.TheConstants.{MOST_KNOWN, MOST_WRITTEN}
 use Rattle.store_model.specs.Causes.{has_page}
 use Rattle.store_model.specs.Steps.{with_page, with_target}
 
@@ -41,7 +41,7 @@ written_at table txn at = option_and_then (λ e. slice_get e.written at) (entry_
 
 -- as many pages are written as can be, and this isn't one of them
 abbrev pub is_wide : List ℕ → ℕ → Bool
-is_wide written page = nat_le most_written (length written) && not (has_page written page)
+is_wide written page = nat_le MOST_WRITTEN (length written) && not (has_page written page)
 
 -- the target is none or known
 abbrev pub knows_target : List NameParts → Option NameParts → Bool
@@ -51,7 +51,7 @@ knows_target known (Some target) = has_name known target
 -- the target would be one name more, and as many are known as can be
 abbrev pub is_full_for : List NameParts → Option NameParts → Bool
 is_full_for known None = false
-is_full_for known (Some target) = nat_le most_known (length known) && not (has_name known target)
+is_full_for known (Some target) = nat_le MOST_KNOWN (length known) && not (has_name known target)
 
 -- the same pages, and the same names, in whatever order
 pub record HaveSamePages (some other : List ℕ) : Type 0 where

@@ -1,6 +1,7 @@
 //! The end of a transaction.
 ghost use Rattle.std.specs.Prelude.{◌≡◌, ℕ, ◌<◌, true, not, nat_eq, filter, is_some, OnErr, length, if◌then◌else◌};
 ghost use Rattle.object_graph.specs.declared.calls.Call.TheVariants.{Abort};
+ghost use Rattle.object_graph.specs.Replies.{done_reply};
 ghost use Rattle.store_model.specs.Worlds.{World};
 ghost use Rattle.store_model.specs.Causes.{has_page};
 ghost use Rattle.store_model.specs.Steps.{committed};
@@ -8,7 +9,7 @@ ghost use Rattle.page_buffer.specs.Frames.{frame_at, settled, reverted};
 ghost use Rattle.page_locks.specs.Holding.{Releases};
 ghost use Rattle.transactions.specs.Tables.{entry_of};
 ghost use Rattle.transactions.specs.Standing.{IsReady, IsReadyForSome, Stands};
-ghost use Rattle.transactions.specs.Calls.{StepsWell, done_reply};
+ghost use Rattle.transactions.specs.Calls.{StepsWell};
 
 use crate::transactions::Transactions;
 use object_graph::Refusal;

@@ -2,15 +2,11 @@
 ghost use Rattle.std.specs.Prelude.{◌≡◌, ◌<◌, ◌++◌, ◌∷◌, [], false, IfOk, length};
 ghost use Rattle.object_graph.specs.Names.{root_name};
 ghost use Rattle.object_graph.specs.Graphs.{has_name};
-ghost use Rattle.store_model.specs.Limits.{most_known};
 
 use indexmap::IndexSet;
-use object_graph::{Memory, Name};
+use object_graph::{MOST_KNOWN, Memory, Name};
 use std::alloc::Global;
 use std::marker::Model;
-
-/// How many names a transaction can know.
-pub const MOST_KNOWN: usize = 4096;
 
 /// Names, oldest first, each once. They are kept by their numbers, so that a look-up is no walk. All
 /// memory is taken by `new`.
@@ -25,14 +21,14 @@ impl Model for KnownNames {
     ghost use Rattle.indexmap.specs.IndexSet.{spare};
     ghost use Rattle.object_graph.specs.NameParts.{NameParts};
     ghost use Rattle.page_image.specs.Fields.{name_of};
-    ghost use Rattle.store_model.specs.Limits.{most_known};
+    ghost use Rattle.object_graph.specs.declared.limits.TheConstants.{MOST_KNOWN};
     ghost use Rattle.transactions.specs.KnownNumbers.{IsOfName};
 
     ghost Value = { List NameParts };
 
     ghost view = { λ k. map name_of k.numbers.keys };
 
-    ghost invariant = { λ k. AllByRecursion IsOfName k.numbers.keys × (most_known ≤ length k.numbers.keys + spare k.numbers) };
+    ghost invariant = { λ k. AllByRecursion IsOfName k.numbers.keys × (MOST_KNOWN ≤ length k.numbers.keys + spare k.numbers) };
 }
 
 impl KnownNames {
@@ -43,6 +39,16 @@ impl KnownNames {
         let mut numbers = IndexSet::with_capacity(alloc, MOST_KNOWN)?;
         numbers.insert(Name::root().to_u64())?;
         Ok(KnownNames { numbers })
+    }
+
+    /// The root alone is known again, with the same room. The work is as much as was known.
+    pub fn clear(&mut self)
+        ensures { self.new ≡ root_name ∷ [] }
+    {
+        self.numbers.truncate(0);
+        let Ok(_) = self.numbers.insert(Name::root().to_u64()) else {
+            unreachable!();
+        };
     }
 
     pub fn count(&self) -> usize
@@ -59,7 +65,7 @@ impl KnownNames {
 
     /// Adds a name.
     pub fn add(&mut self, name: Name)
-        requires room { length self.old < most_known }
+        requires room { length self.old < MOST_KNOWN }
         requires absent { has_name self.old name ≡ false }
         ensures { self.new ≡ self.old ++ name ∷ [] }
     {

@@ -12,5 +12,5 @@ mod tests;
 mod transactions;
 mod writing;
 
-pub use laws::each_call_leaves_them_ready;
+pub use laws::{each_call_leaves_them_ready, what_they_do_not_see_is_nothing_to_them};
 pub use transactions::Transactions;

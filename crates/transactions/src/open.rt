@@ -1,17 +1,13 @@
 //! An open transaction.
 ghost use Rattle.std.specs.Prelude.{◌≡◌, ◌≤◌, ◌<◌, true, false, IfOk, length, nat_le};
 ghost use Rattle.object_graph.specs.Graphs.{has_name};
-ghost use Rattle.store_model.specs.Limits.{most_known};
 ghost use Rattle.store_model.specs.Causes.{has_page};
 ghost use Rattle.transactions.specs.Tables.{OpenParts, IsAscending, IsPlaceFor, fresh_entry, is_wide, knows_target, is_full_for, NotesPage, NotesTarget};
 
-use crate::known::{KnownNames, MOST_KNOWN};
-use object_graph::{Memory, Name};
+use crate::known::KnownNames;
+use object_graph::{MOST_KNOWN, MOST_WRITTEN, Memory, Name};
 use std::alloc::Global;
 use std::marker::Model;
-
-/// How many pages a transaction can write.
-const MOST_WRITTEN: usize = 64;
 
 /// What an open transaction knows, and which pages it wrote, ascending. All memory is taken by `new`.
 #[derive(Drop)]
@@ -21,15 +17,15 @@ pub struct Open {
 }
 
 impl Model for Open {
-    ghost use Rattle.std.specs.Prelude.{◌≤◌, vec_capacity};
-    ghost use Rattle.store_model.specs.Limits.{most_written};
+    ghost use Rattle.std.specs.Prelude.{◌≤◌, length, vec_capacity};
+    ghost use Rattle.object_graph.specs.declared.limits.TheConstants.{MOST_WRITTEN};
     ghost use Rattle.transactions.specs.Tables.{OpenParts, IsAscending};
 
     ghost Value = { OpenParts };
 
     ghost view = { λ o. record { known = o.known; written = o.written.items } };
 
-    ghost invariant = { λ o. IsAscending o.written.items × (most_written ≤ vec_capacity o.written) };
+    ghost invariant = { λ o. IsAscending o.written.items × (MOST_WRITTEN ≤ vec_capacity o.written) × (length o.written.items ≤ MOST_WRITTEN) };
 }
 
 impl Open {
@@ -41,6 +37,14 @@ impl Open {
             known: KnownNames::new(alloc)?,
             written: Vec::with_capacity(alloc, MOST_WRITTEN)?,
         })
+    }
+
+    /// It knows the root, and has written nothing, as at its beginning.
+    pub fn clear(&mut self)
+        ensures { self.new ≡ fresh_entry }
+    {
+        self.known.clear();
+        self.written.clear();
     }
 
     pub fn knows(&self, name: Name) -> bool
@@ -61,7 +65,7 @@ impl Open {
 
     /// As many names are known as can be.
     pub fn knows_most(&self) -> bool
-        ensures { result ≡ nat_le most_known (length self.now.known) }
+        ensures { result ≡ nat_le MOST_KNOWN (length self.now.known) }
     {
         self.known.count() >= MOST_KNOWN
     }
@@ -80,6 +84,7 @@ impl Open {
     pub fn written(&self) -> &[u32]
         ensures pages { result.now ≡ self.now.written }
         ensures ascending { IsAscending self.now.written }
+        ensures few { length self.now.written ≤ MOST_WRITTEN }
     {
         &self.written
     }

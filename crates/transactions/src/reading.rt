@@ -1,13 +1,14 @@
 //! What a transaction reads.
 ghost use Rattle.std.specs.Prelude.{◌≡◌, ◌+◌, ◌<◌, ◌≤◌, OnErr, length};
 ghost use Rattle.object_graph.specs.declared.calls.Call.TheVariants.{Get, Number};
+ghost use Rattle.object_graph.specs.Replies.{num_reply, ref_reply};
 ghost use Rattle.page_image.specs.Pages.{object_at};
 ghost use Rattle.page_buffer.specs.Frames.{frame_at};
 ghost use Rattle.transactions.specs.Standing.{IsReadyForSome};
-ghost use Rattle.transactions.specs.Calls.{StepsWell, num_reply, ref_reply};
+ghost use Rattle.transactions.specs.Calls.{StepsWell};
 
-use crate::transactions::{FIELDS, Transactions};
-use object_graph::{Name, Object, Refusal, Steps};
+use crate::transactions::Transactions;
+use object_graph::{Name, OBJECT_FIELDS, Object, Refusal, Steps};
 use page_buffer::Buffer;
 use page_locks::Busy;
 use std::sync::ledger::Ledger;
@@ -43,7 +44,7 @@ impl Transactions {
         if !entry.knows(name) {
             return Err(Refusal::Stranger);
         }
-        if field >= FIELDS {
+        if field as usize >= OBJECT_FIELDS {
             return Err(Refusal::BadField);
         }
         let page = name.page();

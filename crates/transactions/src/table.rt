@@ -1,22 +1,22 @@
 //! The table of open transactions.
 ghost use Rattle.std.specs.Prelude.{◌≡◌, ◌<◌, ◌++◌, ◌∷◌, [], false, not, filter, nat_eq, is_some, None, IfOk, OnOk, OnErr, length, option_copied};
+ghost use Rattle.std.specs.List.{IsDistinct};
+ghost use Rattle.std.specs.Map.{keys_of};
 ghost use Rattle.transactions.specs.Tables.{Entries, OpenParts, entry_of, fresh_entry, is_wide, is_full_for, ChangesEntry, NotesPage, NotesTarget};
 
 use crate::open::Open;
 use indexmap::IndexMap;
-use object_graph::{Memory, Name};
+use object_graph::{MOST_OPEN, Memory, Name};
 use std::alloc::Global;
 use std::marker::Model;
 
-/// How many transactions can be open.
-pub const MOST_OPEN: usize = 64;
-
 /// The open transactions by their numbers, in the order in which they began. `new` and `add` take
-/// memory, and no other call does.
+/// memory, and no other call does. The rooms of transactions that ended are kept for the next ones.
 #[derive(Drop)]
 pub struct Table {
     alloc: Global,
     entries: IndexMap<u32, Open>,
+    rooms: Vec<Open>,
 }
 
 impl Model for Table {
@@ -32,7 +32,12 @@ impl Table {
         ensures { IfOk result (λ table. table ≡ []) }
     {
         let entries = IndexMap::with_capacity(alloc, MOST_OPEN)?;
-        Ok(Table { alloc, entries })
+        let rooms = Vec::with_capacity(alloc, MOST_OPEN)?;
+        Ok(Table {
+            alloc,
+            entries,
+            rooms,
+        })
     }
 
     pub fn count(&self) -> usize
@@ -59,9 +64,21 @@ impl Table {
         ensures added { OnOk result (self.new ≡ self.old ++ (txn, fresh_entry) ∷ []) }
         ensures unchanged { OnErr result (self.new ≡ self.old) }
     {
-        let entry = Open::new(self.alloc)?;
+        let entry = self.room()?;
         self.entries.insert(txn, entry)?;
         Ok(())
+    }
+
+    /// The room of a transaction that ended, or a new one.
+    fn room(&mut self) -> Result<Open, Memory>
+        ensures fresh { IfOk result (λ room. room ≡ fresh_entry) }
+        ensures same { self.new ≡ self.old }
+    {
+        let Some(mut room) = self.rooms.pop() else {
+            return Open::new(self.alloc);
+        };
+        room.clear();
+        Ok(room)
     }
 
     /// Notes a page as written by a transaction.
@@ -84,10 +101,30 @@ impl Table {
         }
     }
 
-    /// Takes a transaction out.
+    /// Takes a transaction out, and keeps its room.
     pub fn remove(&mut self, txn: u32)
         ensures { self.new ≡ filter (λ e. not (nat_eq txn e.0)) self.old }
     {
-        self.entries.retain(|number, _| *number != txn);
+        self.numbers_are_apart();
+        let Some(room) = self.entries.shift_remove(&txn) else {
+            return;
+        };
+        self.keep(room);
+    }
+
+    /// Keeps the room of a transaction that ended.
+    fn keep(&mut self, room: Open)
+        ensures { self.new ≡ self.old }
+    {
+        if self.rooms.len() < self.rooms.capacity() {
+            self.rooms.push_reserved(room);
+        }
+    }
+
+    /// No number is there twice: it does nothing else.
+    fn numbers_are_apart(&self)
+        ensures { IsDistinct nat_eq (keys_of self.now) }
+    {
+        let _ = self.entries.len();
     }
 }

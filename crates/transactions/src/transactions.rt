@@ -2,29 +2,25 @@
 ghost use Rattle.std.specs.Prelude.{◌≡◌, ℕ, ◌+◌, ◌≤◌, ◌<◌, true, is_some, IfOk, OnErr, IsTrue, length};
 ghost use Rattle.object_graph.specs.Slots.{has_slot};
 ghost use Rattle.object_graph.specs.declared.calls.Call.TheVariants.{Begin};
+ghost use Rattle.object_graph.specs.Replies.{done_reply};
 ghost use Rattle.store_model.specs.Worlds.{World};
 ghost use Rattle.std.specs.List.{AllByRecursion};
 ghost use Rattle.store_model.specs.FromImages.{world_of, has_root, IsWhole};
 ghost use Rattle.store_model.specs.Steps.{swept};
-ghost use Rattle.page_image.specs.Sizes.{page_limit};
 ghost use Rattle.page_image.specs.Pages.{IsPage, slot_at};
 ghost use Rattle.page_buffer.specs.Frames.{frame_at, with_frame, freed_frame};
-ghost use Rattle.page_locks.specs.Holding.{most_admitted};
 ghost use Rattle.transactions.specs.Tables.{entry_of, written_at, IsAscending};
 ghost use Rattle.transactions.specs.Standing.{images_of, AreNumbered, IsReady, IsReadyForSome, Stands};
-ghost use Rattle.transactions.specs.Calls.{AreOutOfReach, StepsWell, done_reply};
+ghost use Rattle.transactions.specs.Calls.{AreOutOfReach, StepsWell};
 
-use crate::table::{MOST_OPEN, Table};
-use object_graph::{Memory, Refusal, SlotSet, Steps};
+use crate::table::Table;
+use object_graph::{MOST_OPEN, MOST_PAGES, MOST_WRITTEN, Memory, Refusal, SlotSet, Steps};
 use page_buffer::{Buffer, Frame};
 use page_image::Page;
 use page_locks::Locks;
 use std::alloc::Global;
 use std::marker::Model;
 use std::sync::ledger::Ledger;
-
-/// How many references an object has.
-pub(crate) const FIELDS: u32 = 4;
 
 /// Open transactions over the frames of a store's pages, under strict two-phase page locks. Contracts
 /// see the table, the locks and the frames, and say for each world for which they stand that the
@@ -58,11 +54,11 @@ impl Transactions {
     /// The store that has just been opened from these pages, page 0 first: what they show is
     /// committed, and no transaction is open.
     pub fn new(alloc: Global, pages: Vec<Page>) -> Result<Transactions, Memory>
-        requires few { length pages.items ≤ page_limit }
+        requires few { length pages.items ≤ MOST_PAGES }
         requires numbered { AreNumbered pages.items }
         requires root { IsTrue (has_root (images_of pages.items)) }
         requires whole { IsWhole (images_of pages.items) }
-        ensures ready { IfOk result (λ s. (commits : ℕ) → IsReady s (world_of most_admitted commits (images_of pages.items))) }
+        ensures ready { IfOk result (λ s. (commits : ℕ) → IsReady s (world_of commits (images_of pages.items))) }
     {
         are_pages(&pages);
         let table = Table::new(alloc)?;
@@ -116,6 +112,7 @@ impl Transactions {
     pub fn written(&self, txn: u32, at: u32) -> Option<u32>
         ensures page { result ≡ written_at self.now.table txn at }
         ensures ascending { (e : _) → entry_of self.now.table txn ≡ Some e → IsAscending e.written }
+        ensures few { (e : _) → entry_of self.now.table txn ≡ Some e → length e.written ≤ MOST_WRITTEN }
     {
         let entry = self.table.find(txn)?;
         entry.written().get(at as usize).copied()

@@ -1,11 +1,12 @@
 //! What a transaction writes and makes.
 ghost use Rattle.std.specs.Prelude.{◌≡◌, ◌+◌, ◌≤◌, OnErr};
 ghost use Rattle.object_graph.specs.declared.calls.Call.TheVariants.{New, Put, Set};
+ghost use Rattle.object_graph.specs.Replies.{done_reply, made_reply};
 ghost use Rattle.transactions.specs.Standing.{IsReadyForSome};
-ghost use Rattle.transactions.specs.Calls.{StepsWell, done_reply, made_reply};
+ghost use Rattle.transactions.specs.Calls.{StepsWell};
 
-use crate::transactions::{FIELDS, Transactions};
-use object_graph::{Name, Refusal, Steps};
+use crate::transactions::Transactions;
+use object_graph::{Name, OBJECT_FIELDS, Refusal, Steps};
 use page_locks::Busy;
 use std::sync::ledger::Ledger;
 
@@ -31,7 +32,7 @@ impl Transactions {
         if !entry.knows(name) || !entry.knows_target(&target) {
             return Err(Refusal::Stranger);
         }
-        if field >= FIELDS {
+        if field as usize >= OBJECT_FIELDS {
             return Err(Refusal::BadField);
         }
         let page = name.page();

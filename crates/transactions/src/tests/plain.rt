@@ -4,7 +4,7 @@ ghost use Rattle.std.specs.Prelude.{◌<◌};
 ghost use Rattle.transactions.specs.Standing.{IsReadyForSome};
 
 use crate::tests::player::Player;
-use object_graph::{Call, Graph, Memory, Name, ROOT, Refusal, Reply};
+use object_graph::{Call, Graph, MOST_PAGES, Memory, Name, ROOT, Refusal, Reply, SLOTS_PER_PAGE};
 use std::alloc::Global;
 use std::test::Fail;
 
@@ -208,9 +208,9 @@ impl Plain {
 
     /// The least slot of a page that no object has.
     fn free_slot(&self, page: u32) -> Option<Name>
-        requires { page < 4096 }
+        requires { page < MOST_PAGES }
     {
-        for slot in 0..20 {
+        for slot in 0..SLOTS_PER_PAGE as u16 {
             let name = Name::at(page, slot, 1);
             if self.seen.object(name).is_none() {
                 return Some(name);

@@ -6,7 +6,7 @@ ghost use Rattle.page_image.specs.Pages.{empty_page, with_slot};
 ghost use Rattle.transactions.specs.Standing.{images_of, AreNumbered, IsReadyForSome};
 
 use crate::Transactions;
-use object_graph::{Call, Memory, Name, Refusal, Reply, Steps};
+use object_graph::{Call, MOST_PAGES, Memory, Name, Refusal, Reply, Steps};
 use page_image::Page;
 use std::alloc::Global;
 use std::marker::Brand;
@@ -21,7 +21,7 @@ pub struct Player {
 
 /// A page of a fresh store: the root stands on page 0.
 fn fresh_page(number: u32) -> Page
-    requires { number < 4096 }
+    requires { number < MOST_PAGES }
     ensures { result ≡ (if nat_eq number 0 then with_slot (empty_page 0) 0 taken else empty_page number) }
 {
     let mut page = Page::empty(number);
@@ -35,8 +35,8 @@ fn fresh_page(number: u32) -> Page
 
 fn fresh_pages(alloc: Global, count: u32) -> Result<Vec<Page>, Memory>
     requires some { 0 < count }
-    requires few { count ≤ 4096 }
-    ensures few { IfOk result (λ pages. length pages.items ≤ 4096) }
+    requires few { count ≤ MOST_PAGES }
+    ensures few { IfOk result (λ pages. length pages.items ≤ MOST_PAGES) }
     ensures numbered { IfOk result (λ pages. AreNumbered pages.items) }
     ensures root { IfOk result (λ pages. IsTrue (has_root (images_of pages.items))) }
     ensures whole { IfOk result (λ pages. IsWhole (images_of pages.items)) }
@@ -48,52 +48,24 @@ fn fresh_pages(alloc: Global, count: u32) -> Result<Vec<Page>, Memory>
     Ok(pages)
 }
 
-fn done(outcome: Result<(), Refusal>) -> Reply {
-    match outcome {
-        Ok(()) => Reply::Done,
-        Err(why) => Reply::Refused { why },
-    }
-}
-
-fn referred(outcome: Result<Option<Name>, Refusal>) -> Reply {
-    match outcome {
-        Ok(target) => Reply::Ref { target },
-        Err(why) => Reply::Refused { why },
-    }
-}
-
-fn numbered(outcome: Result<u64, Refusal>) -> Reply {
-    match outcome {
-        Ok(value) => Reply::Num { value },
-        Err(why) => Reply::Refused { why },
-    }
-}
-
-fn made(outcome: Result<Name, Refusal>) -> Reply {
-    match outcome {
-        Ok(name) => Reply::Made { name },
-        Err(why) => Reply::Refused { why },
-    }
-}
-
 /// The reply to a call of a transaction, but for a commit.
 fn transact<L: Ledger>(store: &mut Transactions, call: &Call, steps: &mut Steps<L>) -> Reply
     requires { IsReadyForSome store.old }
     ensures { IsReadyForSome store.new }
 {
     match *call {
-        Call::Begin { txn } => done(store.begin(txn)),
-        Call::Get { txn, name, field } => referred(store.get(txn, name, field, steps)),
-        Call::Number { txn, name } => numbered(store.number(txn, name, steps)),
+        Call::Begin { txn } => Reply::done(store.begin(txn)),
+        Call::Get { txn, name, field } => Reply::reference(store.get(txn, name, field, steps)),
+        Call::Number { txn, name } => Reply::number(store.number(txn, name, steps)),
         Call::Set {
             txn,
             name,
             field,
             target,
-        } => done(store.set(txn, name, field, target, steps)),
-        Call::Put { txn, name, value } => done(store.put(txn, name, value, steps)),
-        Call::New { txn, page } => made(store.create(txn, page, steps)),
-        Call::Abort { txn } => done(store.abort(txn)),
+        } => Reply::done(store.set(txn, name, field, target, steps)),
+        Call::Put { txn, name, value } => Reply::done(store.put(txn, name, value, steps)),
+        Call::New { txn, page } => Reply::made(store.create(txn, page, steps)),
+        Call::Abort { txn } => Reply::done(store.abort(txn)),
         _ => Reply::Refused {
             why: Refusal::NoCut,
         },
@@ -116,7 +88,7 @@ impl Player {
     /// A fresh store of so many pages.
     pub fn new(alloc: Global, pages: u32) -> Result<Player, Memory>
         requires some { 0 < pages }
-        requires few { pages ≤ 4096 }
+        requires few { pages ≤ MOST_PAGES }
         ensures { IfOk result (λ player. IsReadyForSome player.store) }
     {
         let pages = fresh_pages(alloc, pages)?;

@@ -3,7 +3,7 @@ ghost use Rattle.std.specs.Prelude.{◌<◌, ◌≤◌};
 ghost use Rattle.transactions.specs.Standing.{IsReadyForSome};
 
 use crate::tests::player::Player;
-use object_graph::{Call, Memory, Name, ROOT, Refusal, Reply};
+use object_graph::{Call, MOST_PAGES, Memory, Name, ROOT, Refusal, Reply};
 use std::alloc::Global;
 use std::test::Fail;
 
@@ -156,7 +156,7 @@ fn differs(
     script: &[(Call, Reply)],
 ) -> Result<Option<(usize, Reply)>, Memory>
     requires some { 0 < pages }
-    requires few { pages ≤ 4096 }
+    requires few { pages ≤ MOST_PAGES }
 {
     let mut player = Player::new(alloc, pages)?;
     Ok(player.differs(script))

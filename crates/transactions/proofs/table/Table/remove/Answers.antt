@@ -1,9 +1,10 @@
-use Rattle.std.proofs.Common.{rules, ℕ, not, filter, nat_eq, ◌∙◌, ap}
-use Rattle.indexmap.proofs.CallerLemmas.{filter-RetainsPairs}
-use Rattle.transactions.specs.Tables.{OpenParts}
+use Rattle.std.proofs.Common.{nat_eq, ap, ◌∙◌}
+use Rattle.std.specs.Map.{remove_entry}
+use Rattle.transactions.proofs.Entries.{one_taken_out}
 use Rattle.transactions.proofs.table.Table.remove.Goals as goal
 
+pub returns-in_default : goal.returns-in_default
+returns-in_default c = c.shift_remove.ensures.entries ∙ (ap (remove_entry (nat_eq c.args.txn)) c.self.view_is ∙ one_taken_out c.args.txn c.args.self.now c.numbers_are_apart.ensures)
+
 pub returns : goal.returns
-returns c =
-    filter-RetainsPairs _ (λ (e : ℕ × OpenParts). not (nat_eq c.args.txn e.0)) _ (λ k v b w g call. search rules) _ _ c.retain.ensures.filtered
-    ∙ ap (filter (λ (e : ℕ × OpenParts). not (nat_eq c.args.txn e.0))) c.self.view_is
+returns c = ap (λ es. es) c.keep.ensures ∙ (c.shift_remove.ensures.entries ∙ (ap (remove_entry (nat_eq c.args.txn)) c.self.view_is ∙ one_taken_out c.args.txn c.args.self.now c.numbers_are_apart.ensures))

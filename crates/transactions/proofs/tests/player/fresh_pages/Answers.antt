@@ -1,5 +1,6 @@
 use Rattle.std.proofs.Common.{◌≡◌, ◌≤◌, ◌++◌, ◌∷◌, [], length, sym, subst, ap, ◌∙◌, arith, List}
 use Rattle.std.specs.Bool.{IsTrue}
+use Rattle.object_graph.specs.declared.limits.TheConstants.{MOST_PAGES}
 use Rattle.store_model.specs.FromImages.{has_root, IsWhole}
 use Rattle.page_image.specs.Pages.{PageParts}
 use Rattle.transactions.specs.Standing.{images_of, AreNumbered}
@@ -18,7 +19,7 @@ loop-number-preserved c =
 pub returns-clause-few : goal.returns-clause-few
 returns-clause-few c =
     let all : c.loop-number.number ≡ c.args.count = omega (arith, c.loop-number-test.false, c.loop-number.auto.number-end) in
-    subst (λ (pages : List PageParts). length pages ≤ 4096) (sym (c.loop-number.invariant ∙ ap fresh_pages all)) (are_few c.args.count c.requires.few)
+    subst (λ (pages : List PageParts). length pages ≤ MOST_PAGES) (sym (c.loop-number.invariant ∙ ap fresh_pages all)) (are_few c.args.count c.requires.few)
 
 pub returns-clause-numbered : goal.returns-clause-numbered
 returns-clause-numbered c = subst AreNumbered (sym c.loop-number.invariant) (are_numbered c.loop-number.number)

@@ -1,6 +1,6 @@
 use Rattle.std.proofs.Common.{refl}
 use Rattle.object_graph.specs.declared.calls.Call.TheVariants.{Begin, Get, Number, Set, Put, New, Abort}
-use Rattle.transactions.specs.Calls.{done_reply, ref_reply, num_reply, made_reply}
+use Rattle.object_graph.specs.Replies.{done_reply, ref_reply, num_reply, made_reply}
 use Rattle.transactions.proofs.Ready.{ready_for_some}
 use Rattle.transactions.proofs.tests.player.transact.Goals as goal
 

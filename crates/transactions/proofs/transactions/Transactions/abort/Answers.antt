@@ -20,7 +20,6 @@ returns-clause-steps c = λ w r.
     record {
       allowed = (is_open _ w c.args.txn c.in-Some.entry.now [] o, refl);
       stands = record {
-        limit = o.ready.stands.limit;
         fields = o.ready.stands.fields;
         table = table_without w _ c.self.inside.table c.close.new.self.table c.args.txn refl o.ready.stands.table c.close.ensures.table;
         locks = locks_without w _ c.self.inside.locks c.close.new.self.locks c.args.txn refl refl o.ready.stands.locks c.close.ensures.pages c.close.ensures.locks;

@@ -1,5 +1,6 @@
 use Rattle.std.proofs.Common.{◌≡◌, None, false, nat_le, length, refl, sym, subst, ◌∙◌, arith}
 use Rattle.std.proofs.lemmas.Bool.{lt-leb}
+use Rattle.object_graph.specs.declared.limits.TheConstants.{MOST_OPEN}
 use Rattle.transactions.specs.Tables.{Entries, entry_of}
 use Rattle.transactions.specs.Standing.{IsReady, Stands}
 use Rattle.transactions.proofs.Begins.{begun, stands_begun, not_admitted, none_met, no_entry}
@@ -18,7 +19,7 @@ returns-clause-steps c w before =
     let ready = subst (λ v. IsReady v w) (sym c.self.view_is) before in
     let none : entry_of c.self.inside.table c.args.txn ≡ None = no_entry (entry_of c.self.inside.table c.args.txn) (sym c.has.ensures ∙ c.if-has.false) in
     let closed = not_opened (the_view c.self.inside) (the_view c.self.inside) w c.args.txn refl none ready in
-    let few : nat_le 64 (length c.self.inside.table) ≡ false = lt-leb 64 (length c.self.inside.table) (omega (arith, c.count.ensures, c.if-count-ge-MOST_OPEN.false)) in
+    let few : nat_le MOST_OPEN (length c.self.inside.table) ≡ false = lt-leb MOST_OPEN (length c.self.inside.table) (omega (arith, c.count.ensures, c.if-count-ge-MOST_OPEN.false)) in
     let stands = stands_begun (the_view c.self.inside) w c.args.txn c.admit.new.self ready.stands none closed c.in-Ok.ensures.admitted c.in-Ok.ensures.locks c.in-Ok.ensures.pages in
     record {
       allowed = (none_met (the_view c.self.inside) w c.args.txn ready closed few, refl);

@@ -21,7 +21,6 @@ returns c = record {
   committed = λ w r.
       let o = opened c.args.self.now _ w c.args.txn c.in-Some.entry.now (sym c.self.view_is) (sym c.in-Some.ensures) r in
       record {
-        limit = o.ready.stands.limit;
         fields = view_has_fields w (transaction w c.args.txn) o.ready.stands.fields;
         table = table_without w (committed w c.args.txn) c.self.inside.table c.close.new.self.table c.args.txn refl o.ready.stands.table c.close.ensures.table;
         locks = locks_without w (committed w c.args.txn) c.self.inside.locks c.close.new.self.locks c.args.txn refl refl o.ready.stands.locks c.close.ensures.pages c.close.ensures.locks;

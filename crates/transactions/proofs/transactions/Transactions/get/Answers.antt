@@ -1,4 +1,5 @@
-use Rattle.std.proofs.Common.{sym, ap, refl}
+use Rattle.std.proofs.Common.{Some, sym, ap, refl, ◌∙◌}
+use Rattle.object_graph.specs.ObjectParts.{ObjectParts}
 use Rattle.object_graph.specs.declared.calls.Call.TheVariants.{Get}
 use Rattle.object_graph.specs.declared.calls.Reply.TheVariants.{Ref}
 use Rattle.object_graph.specs.declared.calls.Refusal.TheVariants.{Busy, KnowsTooMany}
@@ -24,7 +25,7 @@ returns-in-Err-clause-steps g c = λ w r.
     let o = opened c.args.self.now _ w c.args.txn c.in-Some.entry.now (sym c.self.view_is) (sym c.in-Some.ensures) r in
     record {
       allowed = refused w (Get c.args.txn c.args.name c.args.field) (Busy c.in-Err.field-0.holder)
-          (get_busy _ w c.args.txn c.in-Some.entry.now c.args.name c.args.field c.page-page.result c.in-Err.field-0.holder o (sym c.if-not-knows.ensures) c.if-field-ge-FIELDS.false c.page-page.ensures.value c.in-Err.ensures.busy);
+          (get_busy _ w c.args.txn c.in-Some.entry.now c.args.name c.args.field c.page-page.result c.in-Err.field-0.holder o (sym c.if-not-knows.ensures) c.if-field-ge-OBJECT_FIELDS.false c.page-page.ensures.value c.in-Err.ensures.busy);
       stands = r.stands;
     }
 
@@ -43,11 +44,11 @@ unreachable-requires g c =
 pub returns-then-has_no_room_for-clause-steps : goal.returns-then-has_no_room_for-clause-steps
 returns-then-has_no_room_for-clause-steps g c = λ w r.
     let o = opened c.args.self.now _ w c.args.txn c.in-Some.entry.now (sym c.self.view_is) (sym c.in-Some.ensures) r in
-    let seen = read_field _ w c.args.txn c.in-Some.entry.now c.args.name c.page-page.result c.args.field c.in-Some-object_seen.object c.index-object-field.result o (sym c.if-not-knows.ensures)
-    c.page-page.ensures.value c.in_default-check_shared.ensures.free (sym c.in-Some-object_seen.ensures.object) c.if-field-ge-FIELDS.false in
+    let seen = read_field _ w c.args.txn c.in-Some.entry.now c.args.name c.page-page.result c.args.field (record { name = c.object.inside.name; number = c.object.inside.number; refs = c.object.inside.refs }) c.index-object-field.result o (sym c.if-not-knows.ensures)
+    c.page-page.ensures.value c.in_default-check_shared.ensures.free (sym c.in-Some-object_seen.ensures.object ∙ ap (λ (o : ObjectParts). Some o) (sym c.object.view_is)) c.if-field-ge-OBJECT_FIELDS.false in
     record {
       allowed = refused w (Get c.args.txn c.args.name c.args.field) KnowsTooMany
-          (get_full _ w c.args.txn c.in-Some.entry.now c.args.name c.args.field c.page-page.result _ _ o (sym c.if-not-knows.ensures) c.if-field-ge-FIELDS.false c.page-page.ensures.value
+          (get_full _ w c.args.txn c.in-Some.entry.now c.args.name c.args.field c.page-page.result _ _ o (sym c.if-not-knows.ensures) c.if-field-ge-OBJECT_FIELDS.false c.page-page.ensures.value
           c.in_default-check_shared.ensures.free seen (sym c.if-has_no_room_for.ensures));
       stands = r.stands;
     }
@@ -60,11 +61,11 @@ try_shared-requires-clause-admitted g c =
 pub returns-clause-steps : goal.returns-clause-steps
 returns-clause-steps g c = λ w r.
     let o = opened c.args.self.now _ w c.args.txn c.in-Some.entry.now (sym c.self.view_is) (sym c.in-Some.ensures) r in
-    let seen = read_field _ w c.args.txn c.in-Some.entry.now c.args.name c.page-page.result c.args.field c.in-Some-object_seen.object c.index-object-field.result o (sym c.if-not-knows.ensures)
-    c.page-page.ensures.value c.in_default-check_shared.ensures.free (sym c.in-Some-object_seen.ensures.object) c.if-field-ge-FIELDS.false in
+    let seen = read_field _ w c.args.txn c.in-Some.entry.now c.args.name c.page-page.result c.args.field (record { name = c.object.inside.name; number = c.object.inside.number; refs = c.object.inside.refs }) c.index-object-field.result o (sym c.if-not-knows.ensures)
+    c.page-page.ensures.value c.in_default-check_shared.ensures.free (sym c.in-Some-object_seen.ensures.object ∙ ap (λ (o : ObjectParts). Some o) (sym c.object.view_is)) c.if-field-ge-OBJECT_FIELDS.false in
     record {
       allowed = (
-        get_full _ w c.args.txn c.in-Some.entry.now c.args.name c.args.field c.page-page.result _ _ o (sym c.if-not-knows.ensures) c.if-field-ge-FIELDS.false c.page-page.ensures.value
+        get_full _ w c.args.txn c.in-Some.entry.now c.args.name c.args.field c.page-page.result _ _ o (sym c.if-not-knows.ensures) c.if-field-ge-OBJECT_FIELDS.false c.page-page.ensures.value
             c.in_default-check_shared.ensures.free seen (sym c.if-has_no_room_for.ensures),
         ap (λ x. Ref x) seen,
       );

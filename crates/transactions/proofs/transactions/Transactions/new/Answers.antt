@@ -11,7 +11,7 @@ returns-in-Ok c = record {
   ready = λ commits.
       let are = subst (AllByRecursion IsPage) c.deref.ensures.value c.are_pages.ensures in
       let count : c.in_ok-locks.locks.pages ≡ length c.args.pages.items = c.in_ok-locks.ensures.pages ∙ (c.len.ensures ∙ c.args.pages.ok.0) in
-      subst (λ (s : TransactionsParts). IsReady s (world_of 64 commits (images_of c.args.pages.items)))
+      subst (λ (s : TransactionsParts). IsReady s (world_of commits (images_of c.args.pages.items)))
       (λ i. record { table = sym c.in_ok-table.ensures i; locks = c.in_ok-locks.locks; frames = sym c.in-Ok.ensures.ok i })
       (from_pages c.args.pages.items c.in_ok-locks.locks commits are c.requires.numbered c.requires.root c.requires.whole count c.in_ok-locks.ensures.empty);
 }

@@ -1,4 +1,5 @@
-use Rattle.std.proofs.Common.{sym, subst, ap, refl}
+use Rattle.std.proofs.Common.{Some, sym, subst, ap, refl, ◌∙◌}
+use Rattle.object_graph.specs.ObjectParts.{ObjectParts}
 use Rattle.object_graph.specs.declared.calls.Call.TheVariants.{Number}
 use Rattle.object_graph.specs.declared.calls.Reply.TheVariants.{Num}
 use Rattle.object_graph.specs.declared.calls.Refusal.TheVariants.{Busy}
@@ -48,8 +49,8 @@ returns-clause-steps g c = λ w r.
     record {
       allowed = (
         number_free _ w c.args.txn c.in-Some.entry.now c.args.name c.page-page.result o (sym c.if-not-knows.ensures) c.page-page.ensures.value c.in_default-try_shared.ensures.free,
-        ap (λ n. Num n) (read_number _ w c.args.txn c.in-Some.entry.now c.args.name c.page-page.result c.in-Some-object_seen.object o (sym c.if-not-knows.ensures) c.page-page.ensures.value
-            c.in_default-try_shared.ensures.free (sym c.in-Some-object_seen.ensures.object)),
+        ap (λ n. Num n) (read_number _ w c.args.txn c.in-Some.entry.now c.args.name c.page-page.result (record { name = c.object.inside.name; number = c.object.inside.number; refs = c.object.inside.refs }) o (sym c.if-not-knows.ensures) c.page-page.ensures.value
+            c.in_default-try_shared.ensures.free (sym c.in-Some-object_seen.ensures.object ∙ ap (λ (o : ObjectParts). Some o) (sym c.object.view_is))),
       );
       stands = number_stands _ _ w c.args.txn c.in-Some.entry.now c.args.name c.page-page.result o c.page-page.ensures.value refl
           (record { locked = c.in_default-try_shared.ensures.taken; pages = c.in_default-try_shared.ensures.pages; frames = refl });

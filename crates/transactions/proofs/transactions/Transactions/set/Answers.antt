@@ -23,7 +23,7 @@ returns-in-Err-clause-steps g c = λ w r.
     let o = opened c.args.self.now _ w c.args.txn c.in-Some.entry.now (sym c.self.view_is) (sym c.in-Some.ensures) r in
     record {
       allowed = refused w (Set c.args.txn c.args.name c.args.field c.args.target) (Busy c.in-Err.field-0.holder)
-          (set_known _ w c.args.txn c.in-Some.entry.now c.args.name c.args.field c.args.target o (sym c.if-not-knows.ensures) (sym c.knows_target.ensures ∙ c.if-not-knows_target.false) c.if-field-ge-FIELDS.false
+          (set_known _ w c.args.txn c.in-Some.entry.now c.args.name c.args.field c.args.target o (sym c.if-not-knows.ensures) (sym c.knows_target.ensures ∙ c.if-not-knows_target.false) c.if-field-ge-OBJECT_FIELDS.false
           ∙ write_busy _ w c.args.txn c.in-Some.entry.now c.args.name c.page-page.result c.in-Err.field-0.holder o c.page-page.ensures.value c.in-Err.ensures.busy);
       stands = r.stands;
     }
@@ -33,7 +33,7 @@ returns-then-is_too_wide-clause-steps g c = λ w r.
     let o = opened c.args.self.now _ w c.args.txn c.in-Some.entry.now (sym c.self.view_is) (sym c.in-Some.ensures) r in
     record {
       allowed = refused w (Set c.args.txn c.args.name c.args.field c.args.target) TooWide
-          (set_known _ w c.args.txn c.in-Some.entry.now c.args.name c.args.field c.args.target o (sym c.if-not-knows.ensures) (sym c.knows_target.ensures ∙ c.if-not-knows_target.false) c.if-field-ge-FIELDS.false
+          (set_known _ w c.args.txn c.in-Some.entry.now c.args.name c.args.field c.args.target o (sym c.if-not-knows.ensures) (sym c.knows_target.ensures ∙ c.if-not-knows_target.false) c.if-field-ge-OBJECT_FIELDS.false
           ∙ write_wide _ w c.args.txn c.in-Some.entry.now c.args.name c.page-page.result _ o c.page-page.ensures.value c.in_default-check_exclusive.ensures.free (sym c.if-is_too_wide.ensures));
       stands = r.stands;
     }
@@ -72,7 +72,7 @@ write_ref-requires-clause-field g c =
     let n = (known_slot _ c.requires.0 true c.args.txn c.in-Some.entry.now c.args.name c.page-page.result c.slot.result
     (opened c.args.self.now _ c.requires.0 c.args.txn c.in-Some.entry.now (sym c.self.view_is) (sym c.in-Some.ensures) c.requires.1)
     (sym c.if-not-knows.ensures) c.page-page.ensures.value c.slot.ensures.value c.in-Ok.ensures.free).fields in
-    let low = c.if-field-ge-FIELDS.false in
+    let low = c.if-field-ge-OBJECT_FIELDS.false in
     omega arith
 
 pub returns-clause-steps : goal.returns-clause-steps
@@ -80,7 +80,7 @@ returns-clause-steps g c = λ w r.
     let o = opened c.args.self.now _ w c.args.txn c.in-Some.entry.now (sym c.self.view_is) (sym c.in-Some.ensures) r in
     record {
       allowed = (
-        set_known _ w c.args.txn c.in-Some.entry.now c.args.name c.args.field c.args.target o (sym c.if-not-knows.ensures) (sym c.knows_target.ensures ∙ c.if-not-knows_target.false) c.if-field-ge-FIELDS.false
+        set_known _ w c.args.txn c.in-Some.entry.now c.args.name c.args.field c.args.target o (sym c.if-not-knows.ensures) (sym c.knows_target.ensures ∙ c.if-not-knows_target.false) c.if-field-ge-OBJECT_FIELDS.false
             ∙ write_wide _ w c.args.txn c.in-Some.entry.now c.args.name c.page-page.result _ o c.page-page.ensures.value c.in_default-check_exclusive.ensures.free (sym c.if-is_too_wide.ensures),
         refl,
       );

@@ -3,4 +3,4 @@ use Rattle.transactions.specs.Standing.{images_of}
 use Rattle.transactions.proofs.tests.player.Player.new.Goals as goal
 
 pub returns : goal.returns
-returns c = (world_of 64 0 (images_of c.in_ok-pages.pages.items), c.in_ok-new.ensures.ready 0)
+returns c = (world_of 0 (images_of c.in_ok-pages.pages.items), c.in_ok-new.ensures.ready 0)
