@@ -1,0 +1,3 @@
+pub mod CutParts
+pub mod Kept
+pub mod Young
