@@ -1,0 +1,11 @@
+mod Sums
+mod Bits
+mod Keeps
+mod Seated
+mod Images
+mod Edges
+mod Seats
+mod Unscanned
+mod Claims
+mod Answered
+mod Young

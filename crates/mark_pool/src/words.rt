@@ -1,0 +1,70 @@
+//! Bits of a word.
+ghost use Rattle.std.specs.Int.{bit_at};
+ghost use Rattle.std.specs.Prelude.{◌≡◌, true, ◌==◌, ℕ, ◌+◌, ◌*◌, ◌^◌, ◌<◌};
+ghost use Rattle.object_graph.specs.Slots.{has_slot};
+
+use object_graph::{MOST_SLOTS, SlotSet};
+
+/// The bit of a slot.
+pub(crate) fn mask(slot: u16) -> u64
+    requires { slot < MOST_SLOTS }
+    ensures { result ≡ 2 ^ slot }
+{
+    1 << slot
+}
+
+/// The number of the word of this kind of a page.
+pub(crate) fn word_of(page: u32, kind: usize) -> usize
+    requires { kind < 3 }
+    ensures { result ≡ 3 * page + kind }
+{
+    3 * page as usize + kind
+}
+
+/// Whether the bit of a slot is 0.
+pub(crate) fn is_clear(word: u64, slot: u16) -> bool
+    requires { slot < MOST_SLOTS }
+    ensures { result ≡ (bit_at word slot == 0) }
+{
+    word & mask(slot) == 0
+}
+
+/// The bits that are 1 in the first word and 0 in the second.
+pub(crate) fn open_of(marked: u64, scanned: u64) -> u64
+    requires { (slot : ℕ) → bit_at marked slot ≡ 1 → slot < MOST_SLOTS }
+    ensures marked { (slot : ℕ) → bit_at result slot ≡ 1 → bit_at marked slot ≡ 1 }
+    ensures unscanned { (slot : ℕ) → bit_at result slot ≡ 1 → bit_at scanned slot ≡ 0 }
+    ensures all { result ≡ 0 → (slot : ℕ) → bit_at marked slot ≡ 1 → bit_at scanned slot ≡ 1 }
+{
+    marked & !scanned
+}
+
+/// The place of the lowest 1.
+pub(crate) fn lowest(word: u64) -> u16
+    requires { 0 < word }
+    ensures { bit_at word result ≡ 1 }
+{
+    word.trailing_zeros() as u16
+}
+
+/// The word without its lowest 1.
+pub(crate) fn without_lowest(word: u64) -> u64
+    requires { 0 < word }
+    ensures { (slot : ℕ) → bit_at result slot ≡ 1 → bit_at word slot ≡ 1 }
+{
+    word & (word - 1)
+}
+
+/// The slots whose bits are 1.
+pub(crate) fn slots_of(word: u64) -> SlotSet
+    requires { (slot : ℕ) → bit_at word slot ≡ 1 → slot < MOST_SLOTS }
+    ensures { (slot : ℕ) → has_slot result slot ≡ (bit_at word slot == 1) }
+{
+    let mut slots = SlotSet::empty();
+    'slots: for slot in 0..MOST_SLOTS {
+        if !is_clear(word, slot) {
+            slots = slots.with(slot);
+        }
+    }
+    slots
+}
