@@ -1,17 +1,15 @@
 //! Lines of scripts.
-ghost use Rattle.std.specs.Prelude.{◌≡◌, ◌≤◌, IfOk, IfErr, IfSome, Ok, length, option_map};
-ghost use Rattle.script_lang.specs.declared.line.Line.{Line};
-ghost use Rattle.script_lang.specs.Script.{Says, SpellsCall};
-ghost use Rattle.script_lang.specs.Reading.{Gives, word_at};
-ghost use Rattle.script_lang.specs.Grammar.{means_at, call_at};
+ghost use Rattle.std.specs.Prelude.{◌≡◌, ◌<◌, ◌≤◌, IfOk, IfErr, Ok, true, false, length};
+ghost use Rattle.script_lang.specs.declared.line.Line.{Line as AnyLine};
+ghost use Rattle.script_lang.specs.declared.line.LaneLine.{LaneLine as AnyLaneLine};
+ghost use Rattle.script_lang.specs.Script.{BeginsNote, Says, SaysInLane, Asks, AsksInLane, InScripts, InLanes, IsFirstWrong, IsBadAt};
 
-use crate::grammar::{call_of, kinds_of, verb_of};
-use crate::meaning::{Kind, Meanings, meaning_of};
-use crate::words::split_at_byte;
+use crate::reader::Reader;
+use crate::table::line_of;
 use object_graph::Call;
 
-// The most bytes of a line.
-const LINE_LIMIT: usize = 200;
+/// How many bytes a line may have (FORMATS.md, "Script lines").
+pub const LINE_LIMIT: usize = 200;
 
 /// What a line of a script says (FORMATS.md, "Script lines").
 #[derive(Clone, Copy, Debug, PartialEq, Eq)]
@@ -24,69 +22,103 @@ pub enum Line {
     Note,
 }
 
+/// What a line for lanes says.
+#[derive(Clone, Copy, Debug, PartialEq, Eq)]
+pub struct LaneLine {
+    /// From 1 to 16; 0 at a note.
+    pub lane: u32,
+    pub line: Line,
+}
+
 /// The line isn't in the grammar.
 #[derive(Clone, Copy, Debug, PartialEq, Eq)]
 pub struct BadLine {
-    /// Counted from 1. It is always 1 yet.
+    /// The first wrong place, counted from 1.
     pub column: u32,
 }
 
-/// What a line says, without the byte that ends it.
+/// What a line of a script says, without the byte that ends it.
 pub fn read_line(bytes: &[u8]) -> Result<Line, BadLine>
     ensures found { IfOk result (Says bytes.now) }
-    ensures only { (line : Line) → Says bytes.now line → result ≡ Ok line }
-    ensures column { IfErr result (λ e. e.column ≡ 1) }
+    ensures only { (line : AnyLine) → Says bytes.now line → result ≡ Ok line }
+    ensures column { IfErr result (λ e. IsBadAt InScripts bytes.now e.column) }
 {
-    if bytes.len() > LINE_LIMIT {
-        return Err(BadLine { column: 1 });
+    if is_too_long(bytes) {
+        return Err(BadLine {
+            column: LINE_LIMIT as u32 + 1,
+        });
     }
-    if bytes.is_empty() || bytes[0] == b'#' {
+    if is_note(bytes) {
         return Ok(Line::Note);
     }
-    match read_call(bytes) {
-        Some(call) => Ok(Line::One { call }),
-        None => Err(BadLine { column: 1 }),
+    read_words(bytes)
+}
+
+// Whether a line has more bytes than it may have.
+fn is_too_long(bytes: &[u8]) -> bool
+    ensures long { result ≡ true → LINE_LIMIT < length bytes.now }
+    ensures short { result ≡ false → length bytes.now ≤ LINE_LIMIT }
+{
+    bytes.len() > LINE_LIMIT
+}
+
+// Whether a line is a note.
+fn is_note(bytes: &[u8]) -> bool
+    ensures note { result ≡ true → BeginsNote bytes.now }
+    ensures other { result ≡ false → BeginsNote bytes.now → ⊥ }
+{
+    match bytes {
+        [] => true,
+        [b, ..] => *b == b'#',
     }
 }
 
-// The call that a line spells: its first word chooses the row of the table.
-#[tactic(auto, unfolding(crate::specs::Grammar::call_at))]
-fn read_call(bytes: &[u8]) -> Option<Call>
-    ensures { Gives (λ c. c) result (call_at bytes.now) }
+// What a line that isn't a note says.
+fn read_words(bytes: &[u8]) -> Result<Line, BadLine>
+    requires { length bytes.now ≤ LINE_LIMIT }
+    ensures found { IfOk result (Asks bytes.now) }
+    ensures only { (line : AnyLine) → Asks bytes.now line → result ≡ Ok line }
+    ensures column { IfErr result (λ e. IsFirstWrong InScripts bytes.now e.column) }
 {
-    let (word, rest) = next_word(bytes);
-    let verb = verb_of(word)?;
-    let words = read_words(kinds_of(verb), rest)?;
-    Some(call_of(verb, words.all()))
-}
-
-// The first word, and what follows the space after it.
-fn next_word(bytes: &[u8]) -> (&[u8], Option<&[u8]>)
-    ensures word { result.0.now ≡ (word_at bytes.now).0 }
-    ensures rest { option_map (λ r. r.now) result.1 ≡ (word_at bytes.now).1 }
-{
-    match split_at_byte(bytes, b' ') {
-        Some((word, rest)) => (word, Some(rest)),
-        None => (bytes, None),
+    let (line, rest) = line_of(Reader::new(bytes), true);
+    match rest.end(bytes) {
+        Ok(()) => Ok(line),
+        Err(bad) => Err(bad),
     }
 }
 
-// What the words say, if they are as many as the kinds, and each is of its kind.
-fn read_words(kinds: &[Kind], first: Option<&[u8]>) -> Option<Meanings>
-    requires { length kinds.now ≤ 4 }
-    ensures { Gives (λ m. m) result (means_at kinds.now (option_map (λ r. r.now) first.entry)) }
+/// What a line for lanes says, without the byte that ends it.
+pub fn read_lane_line(bytes: &[u8]) -> Result<LaneLine, BadLine>
+    ensures found { IfOk result (λ said. SaysInLane bytes.now said.lane said.line) }
+    ensures only { (said : AnyLaneLine) → SaysInLane bytes.now said.lane said.line → result ≡ Ok said }
+    ensures column { IfErr result (λ e. IsBadAt InLanes bytes.now e.column) }
 {
-    let mut words = Meanings::none();
-    let mut rest = first;
-    let mut later = kinds;
-    'words: while let [kind, tail @ ..] = later {
-        let (word, after) = next_word(rest?);
-        words.push(meaning_of(*kind, word)?);
-        rest = after;
-        later = tail;
+    if is_too_long(bytes) {
+        return Err(BadLine {
+            column: LINE_LIMIT as u32 + 1,
+        });
     }
-    match rest {
-        None => Some(words),
-        Some(_) => None,
+    if is_note(bytes) {
+        return Ok(LaneLine {
+            lane: 0,
+            line: Line::Note,
+        });
+    }
+    read_lane_words(bytes)
+}
+
+// What a line for lanes that isn't a note says.
+fn read_lane_words(bytes: &[u8]) -> Result<LaneLine, BadLine>
+    requires { length bytes.now ≤ LINE_LIMIT }
+    ensures found { IfOk result (λ said. AsksInLane bytes.now said.lane said.line) }
+    ensures only { (said : AnyLaneLine) → AsksInLane bytes.now said.lane said.line → result ≡ Ok said }
+    ensures column { IfErr result (λ e. IsFirstWrong InLanes bytes.now e.column) }
+{
+    let mut words = Reader::new(bytes);
+    let lane = words.few();
+    let (line, rest) = line_of(words, false);
+    match rest.end(bytes) {
+        Ok(()) => Ok(LaneLine { lane, line }),
+        Err(bad) => Err(bad),
     }
 }
