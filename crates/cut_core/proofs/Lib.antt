@@ -1,3 +1,13 @@
-pub mod Graphs
-pub mod Steps
-pub mod Walks
+pub mod Staging
+pub mod Crashes
+pub mod Standing
+pub mod Starting
+pub mod Reopening
+pub mod StoreFaults
+pub mod Again
+pub mod FrameCopies
+pub mod OneName
+pub mod MadeSlots
+pub mod Holding
+pub mod Giving
+pub mod Closings

@@ -1,3 +1,10 @@
 pub mod Calls
-pub mod Settled
 pub mod Standing
+pub mod Seen
+pub mod Writing
+pub mod Starts
+pub mod Reopening
+pub mod Joints
+pub mod Holding
+pub mod Whole
+pub mod Given

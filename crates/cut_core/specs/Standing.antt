@@ -1,51 +1,47 @@
 -- Which world the store stands for.
-use Rattle.std.specs.Prelude.{◌≡◌, ℕ, Option, Some, None, List, [], ◌∷◌, MatchOption}
-use Rattle.object_graph.specs.Names.{root_name}
-use Rattle.object_graph.specs.declared.calls.Call.{Call}
-use Rattle.object_graph.specs.declared.calls.Reply.{Reply}
-use Rattle.store_model.specs.Worlds.{World, Transaction, Write, fresh_world, starts, view}
+use Rattle.std.specs.Prelude.{◌≡◌, ℕ, ◌+◌, ◌≤◌, List, None, IfSome}
+use Rattle.disk_trait.specs.Disk.{Only}
+use Rattle.disk_trait.specs.DiskFacts.{LeavesOnly}
+use Rattle.disk_trait.specs.declared.disk.Disk.{Ghosts as DiskOf}
+use Rattle.redo_journal.specs.Homes.{store_size}
+use Rattle.redo_journal.specs.Journals.{JournalParts}
+use Rattle.store_model.specs.Worlds.{World, Event}
 use Rattle.store_model.specs.Replies.{Allows}
 use Rattle.store_model.specs.Steps.{next}
-use Rattle.cut_core.specs.Calls.{event_of}
-use Rattle.cut_core.specs.Settled.{settled}
-use Rattle.cut_core.specs.declared.plain.Plain.{Plain}
-use Rattle.cut_core.specs.declared.plain.Open.{Open}
+use Rattle.store_model.specs.Lawful.{IsLawful}
+use Rattle.image_model.specs.Stands.{StandsForWorld, IsStoreOf}
+use Rattle.transactions.specs.Standing.{Stands as AreTransactionsOf}
+use Rattle.cut_core.specs.Seen.{StandsForEither}
+use Rattle.cut_core.specs.declared.store.Store.{Store}
 
--- the world of the store with these open transactions
-abbrev pub world_of : Plain → List Transaction → World
-world_of plain transactions = record (fresh_world 16) { graph = plain.graph; commits = plain.commits; transactions = transactions }
+-- The disk that tells these bytes keeps the world: what a crash now may leave stands for it. Unless the world is
+-- broken nothing is unsynced, and the bytes are those of the journal's store.
+pub record KeepsWorld (journal : JournalParts) (may_leave : List ℕ → Type 0) (w : World) (file : List ℕ) : Type 0 where
+  pub stands : (image : List ℕ) → may_leave image → StandsForWorld image w
+  pub synced : w.broken ≡ None → Only file may_leave
+  pub own : w.broken ≡ None → IsStoreOf journal file
 
--- the pages that were written: the root's, if it was
-abbrev pub pages_of : Option ℕ → List ℕ
-pages_of None = []
-pages_of (Some number) = root_name.page ∷ []
+-- The store stands for the world. Of its cut it says nothing.
+pub record Stands {D : Type 0} (disks : DiskOf D) (store : Store D) (w : World) : Type 0 where
+  pub lawful : IsLawful w
+  pub transactions : AreTransactionsOf store.transactions w
+  pub commits : store.commits ≡ w.commits
+  pub broken : store.broken ≡ w.broken
+  pub long : store_size w.pages ≤ disks.size store.disk
+  pub pages : w.broken ≡ None → store.journal.pages ≡ w.pages
+  pub counted : w.broken ≡ None → w.commits ≡ store.journal.base + store.journal.commits
+  pub disk : IfSome (disks.content store.disk) (KeepsWorld store.journal (disks.may_leave store.disk) w)
 
--- the open transaction, with these writes and these pages read
-abbrev pub held_by : Open → List Write → List ℕ → Transaction
-held_by o writes pages_read = record {
-  number = o.txn;
-  known = starts (fresh_world 16);
-  own = [];
-  writes = writes;
-  pages_read = pages_read;
-  pages_written = pages_of o.written;
-}
+-- the event may happen in the world, and the store stands for the next
+pub record Steps {D : Type 0} (disks : DiskOf D) (new : Store D) (e : Event) (w : World) : Type 0 where
+  pub allowed : Allows w e
+  pub stands : Stands disks new (next w e)
 
--- a world with this open transaction, which sees the graph with the root's number as it was written
-pub record Holds (plain : Plain) (o : Open) (w : World) : Type 0 where
-  pub writes : List Write
-  pub pages_read : List ℕ
-  pub world : w ≡ world_of plain (held_by o writes pages_read ∷ [])
-  pub seen : view (world_of plain []) (held_by o writes pages_read) ≡ settled plain.graph o.written
+-- so it is in each world for which the store stood
+abbrev pub StepsWell : {D : Type 0} → DiskOf D → Store D → Store D → Event → Type 0
+StepsWell {D} disks old new e = (w : World) → Stands disks old w → Steps disks new e w
 
-abbrev pub Stands : Plain → World → Type 0
-Stands plain w = MatchOption plain.current (w ≡ world_of plain []) (λ o. Holds plain o w)
-
--- the reply is allowed in a world, and the store stands for the next
-pub record Steps (new : Plain) (call : Call) (reply : Reply) (w : World) : Type 0 where
-  pub allowed : Allows w (event_of call reply)
-  pub stands : Stands new (next w (event_of call reply))
-
--- so it is in each world that the store stood for
-abbrev pub StepsWell : Plain → Plain → Call → Reply → Type 0
-StepsWell old new call reply = (w : World) → Stands old w → Steps new call reply w
+-- and a crash at any moment of the call leaves that world or the next
+abbrev pub CrashesWell : {D : Type 0} → DiskOf D → Store D → Store D → Event → Type 0
+CrashesWell {D} disks old new e =
+    (w : World) → Stands disks old w → IfSome (disks.content old.disk) (λ file. LeavesOnly disks old.disk new.disk (StandsForEither w (next w e)))

@@ -1,8 +1,18 @@
 //! The store as one machine.
 #![tactic(auto)]
 
-mod plain;
+mod closing;
+mod commit;
+mod copying;
+mod cutting;
+mod held;
+mod kept_world;
+mod machine;
+mod reopen;
 mod store;
-mod told;
+#[cfg(test)]
+mod tests;
+mod transact;
 
-pub use store::Core;
+pub use kept_world::KeptWorld;
+pub use machine::Core;

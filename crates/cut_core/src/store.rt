@@ -1,73 +1,102 @@
-//! The store, beside the world that it stands for.
-ghost use Rattle.std.specs.Prelude.{◌≡◌, IsTrue, IfOk};
-ghost use Rattle.object_graph.specs.declared.calls.Reply.TheVariants.{Refused};
-ghost use Rattle.object_graph.specs.declared.calls.Refusal.TheVariants.{Memory as WantOfMemory};
-ghost use Rattle.store_model.specs.Worlds.{fresh_world};
-ghost use Rattle.store_model.specs.Replies.{Allows, may_lack_memory};
-ghost use Rattle.store_model.specs.Steps.{next};
-ghost use Rattle.cut_core.specs.Calls.{IsBuilt, event_of};
+//! The store as it is kept: open transactions, the journal and the disk.
+use crate::commit::{stage_commit, write_record};
+use crate::held::Held;
+use crate::transact::transact;
+use disk_trait::{Disk, Failed};
+use object_graph::{Call, MOST_COUNTED, Refusal, Reply, Steps};
+use redo_journal::Journal;
+use std::sync::ledger::Ledger;
+use transactions::Transactions;
 
-use crate::plain::{PAGES, Plain};
-use crate::told::Told;
-use object_graph::{Call, Memory, Reply};
-use std::alloc::Global;
-use std::marker::Model;
-
-/// The store in memory. Contracts see it as the world that it stands for.
+/// What a core keeps, beside the world for which it stands.
 #[derive(Drop)]
-pub struct Core {
-    plain: Plain,
-    told: Told,
+pub struct Store<D: Disk> {
+    pub transactions: Transactions,
+    pub journal: Journal,
+    pub disk: D,
+    pub commits: u64,
+    /// The disk's count of faults as the call ended that broke the store.
+    pub broken: Option<u64>,
 }
 
-impl Model for Core {
+impl<D: Disk> Store<D> {
+    ghost use Rattle.std.specs.Prelude.{◌≡◌, ◌≢◌, None};
+    ghost use Rattle.object_graph.specs.declared.calls.Call.TheVariants.{Commit};
+    ghost use Rattle.object_graph.specs.declared.calls.Refusal.TheVariants.{DiskFault};
+    ghost use Rattle.object_graph.specs.declared.calls.Reply.TheVariants.{Refused};
+    ghost use Rattle.disk_trait.specs.Causes.{Rose};
+    ghost use Rattle.disk_trait.specs.DiskFacts.{KeepsDisk};
     ghost use Rattle.store_model.specs.Worlds.{World};
+    ghost use Rattle.store_model.specs.Steps.{next};
+    ghost use Rattle.cut_core.specs.Calls.{IsOfStore, event_of};
+    ghost use Rattle.cut_core.specs.Given.{KeepsGiven};
+    ghost use Rattle.cut_core.specs.Holding.{Holds};
+    ghost use Rattle.cut_core.specs.Standing.{Stands, StepsWell, CrashesWell};
 
-    ghost Value = { World };
-
-    ghost use Rattle.cut_core.specs.Standing.{Stands};
-
-    ghost view = { λ c. c.told.world };
-
-    ghost invariant = { λ c. Stands c.plain c.told.world };
-}
-
-impl Core {
-    /// The fresh store of 16 pages, which has the root alone.
-    pub fn start(alloc: Global) -> Result<Core, Memory>
-        ensures { IfOk result (λ core. core ≡ fresh_world 16) }
+    /// One call, and its reply.
+    pub fn call<L: Ledger>(&mut self, held: &mut Held, call: &Call, steps: &mut Steps<L>) -> Reply
+        requires built { IsOfStore call.now }
+        requires stands { (w : World) × Stands D.Disk self.old w × Holds held.old w }
+        ensures held { (w : World) → Stands D.Disk self.old w → Holds held.old w → Holds held.new (next w (event_of call.now result (D.fault_count self.new.disk))) }
+        ensures given { KeepsGiven held.old held.new }
+        ensures steps { StepsWell D.Disk self.old self.new (event_of call.now result (D.fault_count self.new.disk)) }
+        ensures any_moment { CrashesWell D.Disk self.old self.new (event_of call.now result (D.fault_count self.new.disk)) }
+        ensures fault { result ≡ Refused DiskFault → Rose (D.fault_count self.old.disk) (D.fault_count self.new.disk) }
+        ensures calm { result ≢ Refused DiskFault → D.fault_count self.new.disk ≡ D.fault_count self.old.disk }
+        ensures keeps { KeepsDisk D.Disk self.old.disk self.new.disk }
     {
-        let plain = Plain::fresh(alloc)?;
-        Ok(Core {
-            plain,
-            told: Told::fresh(),
-        })
+        if let Some(faults) = self.broken {
+            return Reply::Refused {
+                why: Refusal::Broken { faults },
+            };
+        }
+        match *call {
+            Call::Commit { txn } => self.commit(held, txn, steps),
+            _ => transact(&mut self.transactions, call, steps),
+        }
     }
 
-    /// One call, and its reply. After a refusal the store is as before.
-    pub fn call(&mut self, call: Call) -> Reply
-        requires { IsBuilt call }
-        ensures allowed { Allows self.old (event_of call result) }
-        ensures world { self.new ≡ next self.old (event_of call result) }
-        ensures memory { result ≡ Refused WantOfMemory → IsTrue (may_lack_memory call) }
+    /// Commits what a transaction wrote: a record of its pages is written to the journal, and then
+    /// they are settled.
+    fn commit<L: Ledger>(&mut self, held: &mut Held, txn: u32, steps: &mut Steps<L>) -> Reply
+        requires sound { self.old.broken ≡ None }
+        requires stands { (w : World) × Stands D.Disk self.old w × Holds held.old w }
+        ensures held { (w : World) → Stands D.Disk self.old w → Holds held.old w → Holds held.new (next w (event_of (Commit txn) result (D.fault_count self.new.disk))) }
+        ensures given { KeepsGiven held.old held.new }
+        ensures steps { StepsWell D.Disk self.old self.new (event_of (Commit txn) result (D.fault_count self.new.disk)) }
+        ensures any_moment { CrashesWell D.Disk self.old self.new (event_of (Commit txn) result (D.fault_count self.new.disk)) }
+        ensures fault { result ≡ Refused DiskFault → Rose (D.fault_count self.old.disk) (D.fault_count self.new.disk) }
+        ensures calm { result ≢ Refused DiskFault → D.fault_count self.new.disk ≡ D.fault_count self.old.disk }
+        ensures keeps { KeepsDisk D.Disk self.old.disk self.new.disk }
     {
-        let reply = self.plain.call(&call);
-        self.told = self.told.then(&call, &reply);
-        reply
-    }
-
-    /// How many commits there were.
-    pub fn commits(&self) -> u64
-        ensures { result ≡ self.now.commits }
-    {
-        self.plain.commits()
-    }
-
-    /// How many pages the store has.
-    pub fn pages(&self) -> u32
-        ensures { result ≡ self.now.pages }
-    {
-        let _plain = &self.plain;
-        PAGES
+        if !self.transactions.is_open(txn) {
+            return Reply::Refused {
+                why: Refusal::NotOpen,
+            };
+        }
+        if self.commits >= MOST_COUNTED {
+            return Reply::Refused {
+                why: Refusal::Spent {
+                    count: self.commits,
+                },
+            };
+        }
+        stage_commit(&self.transactions, &mut self.journal, txn, steps);
+        match write_record(&mut self.disk, &mut self.journal, self.commits) {
+            Ok(()) => {
+                held.commit(&self.transactions, txn, self.commits, steps);
+                self.transactions.finish(txn);
+                self.commits += 1;
+                Reply::Committed {
+                    commits: self.commits,
+                }
+            }
+            Err(Failed) => {
+                self.broken = Some(self.disk.faults());
+                Reply::Refused {
+                    why: Refusal::DiskFault,
+                }
+            }
+        }
     }
 }

@@ -1,0 +1,15 @@
+-- What contracts see of a core.
+use Rattle.std.specs.Prelude.{◌⊎◌, ℕ, List}
+use Rattle.store_model.specs.Worlds.{World}
+use Rattle.cut_model.specs.Standing.{CutBeside}
+use Rattle.image_model.specs.Stands.{StandsForWorld}
+
+-- the world for which it stands, its disk, and what it has of its cut
+pub record Seen (D : Type 0) : Type 0 where
+  pub world : World
+  pub disk : D
+  pub beside : CutBeside
+
+-- a crash leaves a store file that stands for the world before a call or for the one after it
+abbrev pub StandsForEither : World → World → List ℕ → Type 0
+StandsForEither before after file = StandsForWorld file before ⊎ StandsForWorld file after
