@@ -1,30 +1,50 @@
 //! The store's program. Its words are the name of the store's file, and then a command
-//! (FORMATS.md, "Commands"). The name `-` stands for a disk in memory, and is the only one yet.
+//! (FORMATS.md, "Commands"). The name `-` stands for a fresh store in memory.
 #![tactic(auto)]
 
-ghost use Rattle.std.specs.Prelude.{◌≡◌, ◌<◌, ◌↔◌, codes, IfOk, IsTrue, vec_len};
+ghost use Rattle.std.specs.Prelude.{◌≡◌, ◌≢◌, ◌<◌, ◌↔◌, codes, false, IfOk, IsTrue, vec_len};
 
-use disk_trait::{MemDisk, StdSink, StdSource};
+mod console;
+mod disks;
+#[cfg(test)]
+mod tests;
+
+use console::{Answering, Asking, Held};
+use disk_trait::{Disk, StdSink, StdSource};
+use disks::{fresh_store, open_file};
+use std::cell::RefCell;
+use std::fs::File;
 use std::io::ErrorKind;
 use std::process::ExitCode;
-use std::rt::Env;
+use std::rt::{Env, Files};
 use std::thread::Threads;
 use std::{env, io};
 use store_run::{Status, top};
 
-/// The bytes of the disk in memory.
-const DISK_BYTES: u64 = 541_696;
+/// The code with which the program ends where the file can't be opened or made.
+const NO_FILE: u8 = 12;
+
+/// The store's file can't be opened or made.
+struct NoFile;
 
 fn main(rt: HostRuntime) -> ExitCode {
-    let status = match command_line(&rt) {
-        Ok((file, words)) => run_command(&rt, &file, &words),
-        Err(status) => status,
+    let ended = match command_line(&rt) {
+        Ok((name, words)) => run_command(&rt, &name, &words),
+        Err(status) => Ok(status),
     };
-    // Where there is no memory for the text, the code stands without it.
-    if let Ok(text) = status.text(rt.alloc()) {
-        let _ = eprint!(rt; "{text}");
+    match ended {
+        Ok(status) => {
+            // Where there is no memory for the text, the code stands without it.
+            if let Ok(text) = status.text(rt.alloc()) {
+                let _ = eprint!(rt; "{text}");
+            }
+            ExitCode::from(status.code())
+        }
+        Err(NoFile) => {
+            let _ = eprint!(rt; "store: no file\n");
+            ExitCode::from(NO_FILE)
+        }
     }
-    ExitCode::from(status.code())
 }
 
 /// The name of the store's file, and the words after it, of which there is one at least.
@@ -37,7 +57,7 @@ fn command_line<R: Env + AllocGlobal>(rt: &R) -> Result<(String, Vec<String>), S
         Err(_) => return Err(Status::Usage),
     };
     let _program = args.next();
-    let Some(file) = args.next() else {
+    let Some(name) = args.next() else {
         return Err(Status::Usage);
     };
     let mut words = Vec::new(rt.alloc());
@@ -47,31 +67,75 @@ fn command_line<R: Env + AllocGlobal>(rt: &R) -> Result<(String, Vec<String>), S
     if words.is_empty() {
         return Err(Status::Usage);
     }
-    Ok((file, words))
+    Ok((name, words))
 }
 
 /// Runs the command on the disk of that name.
-fn run_command<R: AllocGlobal + Input + Print + Threads>(
+fn run_command<R: AllocGlobal + Input + Print + Threads + Files<File = File>>(
     rt: &R,
-    file: &String,
+    name: &str,
     words: &[String],
-) -> Status {
-    if !is_memory(file) {
-        return Status::Usage;
+) -> Result<Status, NoFile> {
+    if is_memory(name) {
+        return Ok(match fresh_store(rt) {
+            Ok(disk) => run_on(rt, words, disk),
+            Err(status) => status,
+        });
     }
-    let alloc = rt.alloc();
-    let Ok(disk) = MemDisk::new(alloc, DISK_BYTES, Vec::new(alloc)) else {
-        return Status::Memory;
-    };
-    let mut source = StdSource::on(rt.reader());
-    let mut sink = StdSink::on(io::writer(rt));
-    let (status, _disk) = top(rt, alloc, words, &mut source, &mut sink, disk);
-    status
+    match open_file(rt, name, is_make(words)) {
+        Ok(disk) => Ok(run_on(rt, words, disk)),
+        Err(_) => Err(NoFile),
+    }
 }
 
-/// Whether the name of the file stands for the disk in memory.
-fn is_memory(file: &str) -> bool
-    ensures { IsTrue result ↔ (file.now ≡ codes "-") }
+/// Whether the name stands for a store in memory.
+fn is_memory(name: &str) -> bool
+    ensures { IsTrue result ↔ (name.now ≡ codes "-") }
 {
-    file == "-"
+    name == "-"
+}
+
+/// Whether the first word is `make`.
+fn is_make(words: &[String]) -> bool {
+    match words.first() {
+        Some(word) => word.as_str() == "make",
+        None => false,
+    }
+}
+
+/// Runs the command between standard input and standard output. Replies go out in large pieces, and
+/// always before more input is read.
+fn run_on<R: AllocGlobal + Input + Print + Threads, D: Disk + Drop>(
+    rt: &R,
+    words: &[String],
+    disk: D,
+) -> Status {
+    let alloc = rt.alloc();
+    let Ok(held) = Held::on(alloc, io::writer(rt)) else {
+        return Status::Memory;
+    };
+    let held = RefCell::new(held);
+    let mut source = StdSource::on(Asking {
+        reader: rt.reader(),
+        held: &held,
+    });
+    let mut sink = StdSink::on(Answering { held: &held });
+    let (status, _disk) = top(rt, alloc, words, &mut source, &mut sink, disk);
+    drop(source);
+    drop(sink);
+    let mut held = held.into_inner();
+    held.send();
+    ended(status, held.has_failed())
+}
+
+// How the command ends where the last replies couldn't be written out.
+fn ended(status: Status, failed: bool) -> Status
+    ensures done { status ≡ Status.Done → IsTrue failed → result ≡ Status.WriteFault }
+    ensures calm { failed ≡ false → result ≡ status }
+    ensures other { status ≢ Status.Done → result ≡ status }
+{
+    match status {
+        Status::Done if failed => Status::WriteFault,
+        other => other,
+    }
 }

@@ -1,5 +1,12 @@
+pub mod Acts
+pub mod Built
+pub mod Commands
+pub mod Complete
+pub mod Faults
 pub mod Following
 pub mod Lines
-pub mod Outside
+pub mod Made
+pub mod Pieces
 pub mod Ran
 pub mod Statuses
+pub mod Writing
