@@ -3,6 +3,8 @@ use Rattle.std.proofs.Common.{◌≡◌, ℕ, suc, ◌+◌, ◌<◌, Bool, true,
 use Rattle.std.specs.List.{filter}
 use Rattle.std.proofs.lemmas.Bool.{eqb-true, cases_Bool}
 use Rattle.std.proofs.lemmas.List.{map-append}
+use Rattle.object_graph.specs.declared.names.TheConstants.{OBJECT_FIELDS}
+use Rattle.object_graph.specs.declared.sizes.TheConstants.{SLOTS_PER_PAGE}
 use Rattle.object_graph.specs.Graphs.{fresh_graph}
 use Rattle.object_graph.specs.Slots.{below}
 use Rattle.object_graph.specs.SlotParts.{SlotParts}
@@ -36,10 +38,10 @@ one_more_page count = let e : count + 1 ≡ suc count = omega arith in ap fresh_
 abbrev slot_of : Bool → ℕ → SlotParts
 slot_of root slot =
     let objects : List ObjectParts = cond (root && (0 == slot)) fresh_graph [] in
-    slot_with 4 (filter (is_unfreed []) objects) (length objects)
+    slot_with OBJECT_FIELDS (filter (is_unfreed []) objects) (length objects)
 
 abbrev slots_by : Bool → List SlotParts
-slots_by root = map (slot_of root) (below 20)
+slots_by root = map (slot_of root) (below SLOTS_PER_PAGE)
 
 shown_is : (count page : ℕ) → shown (fresh_world count) page ≡ slots_by (0 == page)
 unfolding shown_of

@@ -8,6 +8,7 @@ use Rattle.std.proofs.lemmas.Option.{slice_get-get_or, slice_get_within}
 use Rattle.std.proofs.lemmas.List.Sums.{sum_by-set}
 use Rattle.std.proofs.lemmas.List.Folds.{list_any_more}
 use Rattle.std.proofs.lemmas.List.Elements.{filter-append}
+use Rattle.object_graph.specs.declared.limits.TheConstants.{MOST_SLOTS}
 use Rattle.object_graph.specs.NameParts.{NameParts}
 use Rattle.object_graph.specs.Names.{root_name, name_eq}
 use Rattle.object_graph.specs.SlotParts.{SlotParts}
@@ -59,10 +60,10 @@ count_less p q (suc n) k lt pk qk h = elim (cases_eq k n) [
         ap length (filter-append p (below n) (n ∷ [])) ∙ length-append (filter p (below n)) (filter p (n ∷ [])) ∙ e
         ∙ sym (ap (λ (m : ℕ). m + 1) (ap length (filter-append q (below n) (n ∷ [])) ∙ length-append (filter q (below n)) (filter q (n ∷ []))))
 
-one_less : (old new slot : ℕ) → slot < 40 → has_slot old slot ≡ false → ((s : ℕ) → has_slot new s ≡ (has_slot old s || s == slot)) → slots_left old ≡ slots_left new + 1
+one_less : (old new slot : ℕ) → slot < MOST_SLOTS → has_slot old slot ≡ false → ((s : ℕ) → has_slot new s ≡ (has_slot old s || s == slot)) → slots_left old ≡ slots_left new + 1
 unfolding slots_left
 one_less old new slot lt free is =
-    count_less (λ s. not (has_slot old s)) (λ s. not (has_slot new s)) 40 slot lt (ap not free)
+    count_less (λ s. not (has_slot old s)) (λ s. not (has_slot new s)) MOST_SLOTS slot lt (ap not free)
     (ap not (is slot ∙ or_right (has_slot old slot) (slot == slot) (eq-eqb slot slot refl)))
     (λ s off. ap not (sym (is s ∙ other (has_slot old s) (s == slot) (ne_eqb s slot off))))
   where
@@ -84,7 +85,7 @@ marked_none images name todo marks h = record {
   only = λ n i. inl i;
 }
 
-module _ (images : List (List SlotParts)) (name : NameParts) (todo : List NameParts) (marks : List ℕ) (v : ℕ) (used : is_name_in_use images name ≡ true) (within : name.page < length marks) (low : name.slot < 40)
+module _ (images : List (List SlotParts)) (name : NameParts) (todo : List NameParts) (marks : List ℕ) (v : ℕ) (used : is_name_in_use images name ≡ true) (within : name.page < length marks) (low : name.slot < MOST_SLOTS)
     (is : (s : ℕ) → has_slot v s ≡ (has_slot (get_or marks name.page 0) s || s == name.slot)) (free : has_slot (get_or marks name.page 0) name.slot ≡ false) where
   later : List ℕ
   later = set marks name.page v
@@ -146,7 +147,7 @@ module _ (images : List (List SlotParts)) (name : NameParts) (todo : List NamePa
   }
 
 -- the same, from what the code has read
-pub marked_at : (images : List (List SlotParts)) (name copy : NameParts) (todo todo' : List NameParts) (marks : List ℕ) (page slot slot_again old old_again v pages : ℕ) (test : Bool) → page ≡ name.page → slot ≡ name.slot → slot_again ≡ name.slot → slot < 40
+pub marked_at : (images : List (List SlotParts)) (name copy : NameParts) (todo todo' : List NameParts) (marks : List ℕ) (page slot slot_again old old_again v pages : ℕ) (test : Bool) → page ≡ name.page → slot ≡ name.slot → slot_again ≡ name.slot → slot < MOST_SLOTS
     → is_name_in_use images name ≡ true → length images ≡ pages → length marks ≡ pages → old ≡ get_or marks page old → old_again ≡ get_or marks page old_again → test ≡ has_slot old slot → test ≡ false
     → ((s : ℕ) → has_slot v s ≡ (has_slot old_again s || s == slot_again)) → todo' ≡ todo ++ copy ∷ [] → copy ≡ name → IsMarkedMore images (name_eq name) todo marks todo' (set marks page v)
 marked_at images name copy todo todo' marks page slot slot_again old old_again v pages test page_is slot_is again_is low used count long reads reads_again tested free is pushed copied =

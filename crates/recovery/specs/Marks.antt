@@ -1,6 +1,7 @@
 -- Marks of places, one set of slots for each page, and a walk that marks what is reached from the root and notes the least
 -- place of a reference that dangles.
 use Rattle.std.specs.Prelude.{◌≡◌, ◌⊎◌, ℕ, ◌+◌, ◌*◌, ◌<◌, ◌≤◌, Bool, true, false, not, List, [], ◌∷◌, length, filter, Option, Some, None, slice_get, slice_index, sum_by}
+use Rattle.object_graph.specs.declared.limits.TheConstants.{MOST_SLOTS}
 use Rattle.object_graph.specs.NameParts.{NameParts}
 use Rattle.object_graph.specs.Names.{root_name}
 use Rattle.object_graph.specs.SlotParts.{SlotParts}
@@ -20,7 +21,7 @@ IsReachedIn images name = IsReachedFrom (objects_in_use images) (root_name ∷ [
 
 -- how many places are unmarked
 unfoldable pub slots_left : ℕ → ℕ
-slots_left set = length (filter (λ slot. not (has_slot set slot)) (below 40))
+slots_left set = length (filter (λ slot. not (has_slot set slot)) (below MOST_SLOTS))
 
 abbrev pub places_left : List ℕ → ℕ
 places_left marks = sum_by slots_left marks

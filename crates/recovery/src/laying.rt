@@ -1,5 +1,5 @@
 //! Laying a store.
-ghost use Rattle.std.specs.Prelude.{◌≡◌, ◌≤◌, ◌<◌, ◌+◌, ◌*◌, ◌++◌, ◌↔◌, ℕ, Err, IfSome, IsErrOf, OnErr, OnOk, length, replicate};
+ghost use Rattle.std.specs.Prelude.{◌≡◌, ◌≢◌, ◌≤◌, ◌<◌, ◌+◌, ◌*◌, ◌++◌, ◌↔◌, ℕ, Err, IfErr, IfSome, IsErrOf, OnErr, OnOk, length, replicate};
 ghost use Rattle.std.specs.List.{AllByRecursion, flat_map};
 ghost use Rattle.disk_trait.specs.Causes.{Rose};
 ghost use Rattle.disk_trait.specs.Disk.{IsSynced};
@@ -152,6 +152,7 @@ pub fn lay<D: Disk>(disk: &mut D, pages: &[Page], commits: u64) -> Result<(), La
     ensures store { OnOk result (IfSome (D.content disk.new) (λ c. IsStore c (record { commits = commits; pages = pages.now }))) }
     ensures synced { OnOk result (IsSynced (D.content disk.new) (D.may_leave disk.new)) }
     ensures short { (len need : ℕ) → (result ≡ Err (LayFault.TooShort len need)) ↔ ((len ≡ D.size disk.old) × (need ≡ store_size (length pages.now)) × (len < need)) }
+    ensures untouched { IfErr result (λ fault. fault ≢ LayFault.DiskFault → disk.new ≡ disk.old) }
     ensures calm { OnOk result (D.fault_count disk.new ≡ D.fault_count disk.old) }
     ensures fault { IsErrOf result LayFault.DiskFault → Rose (D.fault_count disk.old) (D.fault_count disk.new) }
     ensures keeps { KeepsDisk D.Disk disk.old disk.new }

@@ -1,5 +1,5 @@
 //! Making a fresh store.
-ghost use Rattle.std.specs.Prelude.{◌≡◌, ◌≤◌, ◌<◌, ◌↔◌, ℕ, Err, IfOk, IfSome, IsErrOf, IsTrue, OnOk, not};
+ghost use Rattle.std.specs.Prelude.{◌≡◌, ◌≢◌, ◌≤◌, ◌<◌, ◌↔◌, ℕ, Err, IfErr, IfOk, IfSome, IsErrOf, IsTrue, OnOk, not};
 ghost use Rattle.disk_trait.specs.Causes.{Rose};
 ghost use Rattle.disk_trait.specs.Disk.{IsSynced};
 ghost use Rattle.disk_trait.specs.DiskFacts.{KeepsDisk};
@@ -52,6 +52,7 @@ pub fn make<D: Disk>(alloc: Global, disk: &mut D, pages: u64) -> Result<(), Make
     ensures synced { OnOk result (IsSynced (D.content disk.new) (D.may_leave disk.new)) }
     ensures bad { (count : ℕ) → (result ≡ Err (MakeFault.BadPages count)) ↔ ((count ≡ pages) × IsTrue (not (is_page_count pages))) }
     ensures short { (len need : ℕ) → (result ≡ Err (MakeFault.TooShort len need)) ↔ ((len ≡ D.size disk.old) × (need ≡ store_size pages) × IsTrue (is_page_count pages) × (len < need)) }
+    ensures untouched { IfErr result (λ fault. fault ≢ MakeFault.DiskFault → disk.new ≡ disk.old) }
     ensures calm { OnOk result (D.fault_count disk.new ≡ D.fault_count disk.old) }
     ensures lack { IsErrOf result MakeFault.Memory → D.fault_count disk.new ≡ D.fault_count disk.old }
     ensures fault { IsErrOf result MakeFault.DiskFault → Rose (D.fault_count disk.old) (D.fault_count disk.new) }
