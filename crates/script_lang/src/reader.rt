@@ -5,7 +5,7 @@ ghost use Rattle.object_graph.specs.NameParts.{IsName};
 ghost use Rattle.script_lang.specs.Reading.{is_done, next_word, moved_to, stop, step_of, value_or, read, short_at, number_at, few_at, name_at, word_at};
 
 use crate::line::{BadLine, LINE_LIMIT};
-use crate::words::{few_of, name_of, number_of, short_of, split_at_byte};
+use crate::words::{few_in, name_in, number_in, short_in, split_at_byte};
 use object_graph::{Name, ROOT};
 use std::marker::Model;
 
@@ -40,21 +40,20 @@ impl<'a> Reader<'a> {
 
     /// A transaction, a page or a field.
     #[tactic(auto, unfolding(crate::specs::Reading::read))]
+    #[inline(always)]
     pub fn short(&mut self) -> u32
         ensures value { result ≡ value_or 0 (read short_at self.old) }
         ensures left { self.new ≡ step_of (read short_at self.old) self.old }
     {
-        match self.next() {
-            Some((word, rest)) => match short_of(word) {
-                Some(number) => {
-                    self.go_to(rest);
-                    number
-                }
-                None => {
-                    self.stop();
-                    0
-                }
-            },
+        if self.ended || self.stopped {
+            self.stop();
+            return 0;
+        }
+        match short_in(self.left) {
+            Some((number, rest)) => {
+                self.go_to(rest);
+                number
+            }
             None => {
                 self.stop();
                 0
@@ -64,21 +63,20 @@ impl<'a> Reader<'a> {
 
     /// A value.
     #[tactic(auto, unfolding(crate::specs::Reading::read))]
+    #[inline(always)]
     pub fn long(&mut self) -> u64
         ensures value { result ≡ value_or 0 (read number_at self.old) }
         ensures left { self.new ≡ step_of (read number_at self.old) self.old }
     {
-        match self.next() {
-            Some((word, rest)) => match number_of(word) {
-                Some(number) => {
-                    self.go_to(rest);
-                    number
-                }
-                None => {
-                    self.stop();
-                    0
-                }
-            },
+        if self.ended || self.stopped {
+            self.stop();
+            return 0;
+        }
+        match number_in(self.left) {
+            Some((number, rest)) => {
+                self.go_to(rest);
+                number
+            }
             None => {
                 self.stop();
                 0
@@ -88,21 +86,20 @@ impl<'a> Reader<'a> {
 
     /// A count of workers, or a lane.
     #[tactic(auto, unfolding(crate::specs::Reading::read))]
+    #[inline(always)]
     pub fn few(&mut self) -> u32
         ensures value { result ≡ value_or 1 (read few_at self.old) }
         ensures left { self.new ≡ step_of (read few_at self.old) self.old }
     {
-        match self.next() {
-            Some((word, rest)) => match few_of(word) {
-                Some(number) => {
-                    self.go_to(rest);
-                    number
-                }
-                None => {
-                    self.stop();
-                    1
-                }
-            },
+        if self.ended || self.stopped {
+            self.stop();
+            return 1;
+        }
+        match few_in(self.left) {
+            Some((number, rest)) => {
+                self.go_to(rest);
+                number
+            }
             None => {
                 self.stop();
                 1
@@ -112,21 +109,20 @@ impl<'a> Reader<'a> {
 
     /// A name.
     #[tactic(auto, unfolding(crate::specs::Reading::read))]
+    #[inline(always)]
     pub fn named(&mut self) -> Name
         ensures value { result ≡ value_or root_name (read name_at self.old) }
         ensures left { self.new ≡ step_of (read name_at self.old) self.old }
     {
-        match self.next() {
-            Some((word, rest)) => match name_of(word) {
-                Some(name) => {
-                    self.go_to(rest);
-                    name
-                }
-                None => {
-                    self.stop();
-                    ROOT
-                }
-            },
+        if self.ended || self.stopped {
+            self.stop();
+            return ROOT;
+        }
+        match name_in(self.left) {
+            Some((name, rest)) => {
+                self.go_to(rest);
+                name
+            }
             None => {
                 self.stop();
                 ROOT
