@@ -28,7 +28,7 @@ use Rattle.cut_model.proofs.Phases.{event_stands}
 use Rattle.cut_model.proofs.Turning.{turns_close, turns_still}
 use Rattle.cut_builder.specs.CutParts.{CutParts, ClosedParts, MarkedParts, starts_of, AreCopied, IsFirstUncopied}
 use Rattle.cut_core.specs.Holding.{phase_of, beside_stage, beside_of, IsStage, IsHeldCut, IsHeld, Holds, IsButForCut}
-use Rattle.cut_core.specs.Given.{CutAnswers, HeldGiven, HasGiven, KeepsGiven, closed_reply, closed_note, marked_reply}
+use Rattle.cut_core.specs.Given.{AreOfTheCut, CutAnswers, HeldGiven, HasGiven, KeepsGiven, IsCutOf, closed_reply, closed_note, marked_reply}
 use Rattle.cut_core.specs.Standing.{Stands}
 use Rattle.cut_core.specs.Whole.{Keeps}
 use Rattle.cut_core.specs.declared.store.Store.{Store}
@@ -128,6 +128,18 @@ module _ (held : Held) (cut : HeldCut) (parts : CutParts) (w : World) (is : held
       stage_anew (Copying c) s = s
       stage_anew (Closed g) s = s
       stage_anew (Sweeping m) s = s
+
+-- what goes out is the world's cut
+pub closed_sound : (held : Held) (cut : HeldCut) (parts : CutParts) (closed : ClosedParts) (w : World) → held.cut ≡ Some cut → cut.stage ≡ Copying parts → closed ≡ record { number = parts.number; pages = parts.pages } → Holds held w
+    → IsCutOf w closed
+closed_sound held cut parts closed w is stage is_closed h =
+    let its = there w cut w.cut (subst (λ o. IsHeld w o w.cut) is h.cut) in
+    let own : IsStage w cut.number (Copying parts) = subst (IsStage w cut.number) stage its.2.stage in
+    let from : IsStanding w (beside_stage (Copying parts)) = subst (IsStanding w) (ap beside_of is ∙ ap beside_stage stage) h.standing in
+    let copying : IsCopying w its.0 parts.pages = in_phase w its.0 phase.Copying (beside_stage (Copying parts)) its.1 (sym its.2.phase ∙ ap phase_of stage) from in
+    let number : its.0.number ≡ closed.number = sym its.2.number ∙ (sym own.0 ∙ sym (ap (λ (c : ClosedParts). c.number) is_closed)) in
+    subst (λ o. IsSomeAnd o (λ (opened : OpenedCut). (opened.number ≡ closed.number) × IsCopying w opened closed.pages)) (sym its.1)
+    (number, subst (λ (pages : List CutPage). IsCopying w its.0 pages) (sym (ap (λ (c : ClosedParts). c.pages) is_closed)) copying)
 
 -- what comes back is what was there
 pub back_again : (held : Held) (cut : HeldCut) (parts again : CutParts) → held.cut ≡ Some cut → cut.stage ≡ Copying parts → again ≡ parts
@@ -323,3 +335,11 @@ given_as held cut number pages is h = record {
   before = h.before;
   same = subst (λ o. IfSome o (λ (c : HeldCut). c.number ≡ number → (is_phase (phase_of c.stage) phase.Copying ≡ false) × ((beside_stage c.stage).pages ≡ pages))) is h.same;
 }
+
+-- marks of the cut that was given out are of the present one
+pub marks_of_given : (w : World) (b : CutBeside) (closed : ClosedParts) (marked : MarkedParts) → marked.cut ≡ closed → HasGiven w b closed.number closed.pages → AreOfTheCut w b marked
+marks_of_given w b closed marked is given = by w.cut given.same
+  where
+    by : (o : Option OpenedCut) → IfSome o (λ (c : OpenedCut). c.number ≡ closed.number → (is_phase c.phase phase.Copying ≡ false) × (b.pages ≡ closed.pages)) → IfSome o (λ (c : OpenedCut). c.number ≡ marked.cut.number → marked.cut.pages ≡ b.pages)
+    by None same = tt
+    by (Some c) same = λ e. ap (λ (x : ClosedParts). x.pages) is ∙ sym (same (e ∙ ap (λ (x : ClosedParts). x.number) is)).1

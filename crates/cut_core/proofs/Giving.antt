@@ -204,7 +204,7 @@ names_given s w txn at page moment done frame old now k is frame_is g =
     (view_safe w t opening page orderly there k.copying.keeps, all_right (IsSafeImage opening page) (images_of_change p.after) (images_of_copy p.copy) (safe page low)) in
     let one = one_name_each w opening (set now.pages page (with_commit image moment p.born p)) orderly k.copying.keeps (λ x m. graph_safe opening (set now.pages page (with_commit image moment p.born p)) x after m) in
     subst (λ n. HasOneNameEach (set now.pages n (with_commit frame.current.slots moment (page_of now.pages n).born (page_of now.pages n)))) (sym number)
-    (subst (λ i. HasOneNameEach (set now.pages page (with_commit i moment p.born p))) (sym slots) (record { once = one.once; root = one.root }))
+    (subst (λ i. HasOneNameEach (set now.pages page (with_commit i moment p.born p))) (sym slots) one)
 
 -- ---- one page more
 

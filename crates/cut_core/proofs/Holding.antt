@@ -33,7 +33,6 @@ use Rattle.cut_model.proofs.Fits.{frame_keeps_cut}
 use Rattle.cut_model.proofs.Openings.{get-replicate_same}
 use Rattle.cut_model.proofs.Phases.{event_stands, has_copied}
 use Rattle.cut_model.proofs.Turning.{changes_cut, turns_copy, turns_still, stands_after}
-use Rattle.cut_core.specs.Joints as joints
 use Rattle.cut_core.specs.Joints.{copy_of_frame}
 use Rattle.std.specs.Prelude.{Result, Ok, Err, OnOk, OnErr}
 use Rattle.std.proofs.lemmas.Bool.{ltb-true, lt-leb}
@@ -62,10 +61,11 @@ use Rattle.redo_journal.proofs.Moments.{if_some_map}
 use Rattle.transactions.specs.Standing.{Stands as AreTransactionsOf}
 use Rattle.cut_core.specs.Standing.{KeepsWorld, Stands, Steps}
 use Rattle.cut_core.specs.declared.store.Store.{Store}
-use Rattle.cut_core.proofs.Standing.{same_state, undoubted, note_is}
+use Rattle.cut_core.proofs.Recorded.{undoubted}
+use Rattle.cut_core.proofs.Standing.{same_state, note_is}
 use Rattle.std.proofs.Common.{inl, inr}
 use Rattle.object_graph.specs.declared.calls.Reply.TheVariants.{Committed}
-use Rattle.store_model.specs.Worlds.{faults, Transaction, transaction, find_transaction, view}
+use Rattle.store_model.specs.Worlds.{Transaction, transaction, find_transaction, view}
 use Rattle.store_model.specs.Images.{shown_in}
 use Rattle.store_model.specs.Steps.{committed}
 use Rattle.cut_model.specs.Changes.{IsCutAfter}
@@ -77,7 +77,7 @@ use Rattle.transactions.proofs.Begins.{opened_there}
 use Rattle.transactions.proofs.Numbers.{transaction_found}
 use Rattle.transactions.proofs.Opened.{opened}
 use Rattle.cut_core.specs.Writing.{pages_in}
-use Rattle.cut_core.specs.Holding.{IsGivenUpTo}
+use Rattle.cut_core.specs.Holding.{AddsFrame, IsGivenUpTo}
 use Rattle.cut_core.proofs.Staging.{entry_there}
 use Rattle.cut_core.proofs.Standing.{none_first}
 use Rattle.cut_core.specs.Calls.{IsOfStore, IsBuilt, is_of_cut, IsOfTransaction, IsOfCut, note_of, event_of}
@@ -177,9 +177,6 @@ same_cut held cut w is h = record {
   standing = subst (λ o. IsStanding w (beside_of o)) is h.standing;
 }
 
-names_again : (pages : List CutPage) → joints.HasOneNameEach pages → built.HasOneNameEach pages
-names_again pages h = record { once = h.once; root = h.root }
-
 -- the copy of a frame leaves one name at each place
 pub copy_names : (s : TransactionsParts) (cut : CutParts) (page at commits : ℕ) (c : Copied) (frame : Frame) (w : World) → Copies s cut w → w.commits ≡ commits → (count : ℕ) → count ≡ length s.frames
     → page < count → at ≡ page → c ≡ copy_of_frame commits frame → frame ≡ frame_at s.frames page
@@ -191,9 +188,8 @@ copy_names s cut page at commits c frame w k is count counted few at_is c_is fra
     let sound = frame_keeps_cut w k.opened.opening cut.pages page k.ready.lawful.orderly k.copying.keeps k.copying.sound within in
     subst (λ p. built.HasOneNameEach (set cut.pages p (with_copy c (page_of cut.pages p)))) (sym at_is)
     (subst (λ d. built.HasOneNameEach (set cut.pages page (with_copy d (page_of cut.pages page)))) (sym copy)
-    (names_again (set cut.pages page (with_copy (copy_now w page) (page_of cut.pages page)))
     (one_name_each w k.opened.opening (set cut.pages page (with_copy (copy_now w page) (page_of cut.pages page))) k.ready.lawful.orderly k.copying.keeps
-    (λ o m. cut_graph_safe (state_of w) k.opened.opening (set cut.pages page (with_copy (copy_now w page) (page_of cut.pages page))) o sound m))))
+    (λ o m. cut_graph_safe (state_of w) k.opened.opening (set cut.pages page (with_copy (copy_now w page) (page_of cut.pages page))) o sound m)))
 
 copy_first : (w : World) (cut : OpenedCut) (pages : List CutPage) (page count : ℕ) → w.broken ≡ None → w.cut ≡ Some cut → cut.phase ≡ phase.Copying → count ≡ w.pages → IsCopying w cut pages
     → first_refusal w (Copy page) nothing ≡ copy_refusal count pages page
@@ -275,6 +271,22 @@ module _ (held : HeldCut) (cut after : CutParts) (last page commits : ℕ) (s : 
                   (turns_copy w c page (beside_stage (Copying cut)) (beside_stage (Copying after)) is at (inside, pages) refl);
             };
           }
+
+  -- the copy is the page's frame as it stands
+  pub copied_adds : (result : Result (Unit {0}) Refusal) → held.stage ≡ Copying cut → Holds old w → IsReady s w → w.commits ≡ commits
+      → OnOk result (after ≡ built.with_page cut page (with_copy (copy_of_frame commits (frame_at s.frames page)) (page_of cut.pages page)))
+      → OnOk result (page < length s.frames) → OnOk result (AddsFrame w page (beside_stage held.stage) (beside_stage (Copying after)))
+  copied_adds (Err why) stage h ready same copied within = tt
+  copied_adds (Ok done) stage h ready same copied within =
+      let c = there w held w.cut h.cut in
+      let at : c.0.phase ≡ phase.Copying = sym c.2.phase ∙ ap phase_of stage in
+      let copying : IsCopying w c.0 cut.pages = subst (λ t. IsCopying w c.0 (beside_stage t).pages) stage (in_phase w c.0 phase.Copying (beside_stage held.stage) c.1 at h.standing) in
+      let low : page < w.pages = subst (λ n. page < n) ready.stands.frames.count within in
+      let inside : page < length cut.pages = subst (λ n. page < n) (sym copying.all) low in
+      let copy : copy_of_frame commits (frame_at s.frames page) ≡ copy_now w page = ap (λ n. copy_of_frame n (frame_at s.frames page)) (sym same) ∙ frame_copy s w page ready low in
+      let pages : after.pages ≡ set cut.pages page (with_copy (copy_now w page) (page_of cut.pages page)) =
+      ap (λ (p : CutParts). p.pages) copied ∙ ap (λ d. set cut.pages page (with_copy d (page_of cut.pages page))) copy in
+      subst (λ t. AddsFrame w page (beside_stage t) (beside_stage (Copying after))) (sym stage) (inside, pages)
 
 -- ---- the end
 
@@ -526,9 +538,6 @@ none_held_yet w lawful last none few = record {
 }
 
 -- ---- a commit
-
-pub fault_may : (w : World) (txn count : ℕ) → first_refusal w (Commit txn) nothing ≡ None → AllowsReply w (Commit txn) (faults count) (Refused DiskFault)
-fault_may w txn count may = subst (λ (o : Option Refusal). MatchOption o (is_free (Commit txn) DiskFault ≡ true) (λ first. DiskFault ≡ first)) (sym may) refl
 
 pub may_commit : (s : TransactionsParts) (w : World) (txn commits : ℕ) → IsReady s w → is_some (entry_of s.table txn) ≡ true → w.commits ≡ commits → commits < MOST_COUNTED
     → AllowsReply w (Commit txn) nothing (Committed (w.commits + 1))

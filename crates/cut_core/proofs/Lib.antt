@@ -1,5 +1,6 @@
 pub mod Staging
 pub mod Crashes
+pub mod Recorded
 pub mod Standing
 pub mod Starting
 pub mod Reopening
@@ -11,3 +12,4 @@ pub mod MadeSlots
 pub mod Holding
 pub mod Giving
 pub mod Closings
+pub mod Sweeping

@@ -16,7 +16,7 @@ use Rattle.cut_model.specs.Sound.{IsSafeObject}
 use Rattle.cut_model.specs.States.{KeepsOpening, generation_at, generation_with}
 use Rattle.cut_model.proofs.Places.{one_name}
 use Rattle.transactions.proofs.Viewed.{place_of}
-use Rattle.cut_core.specs.Joints.{HasOneNameEach}
+use Rattle.cut_builder.specs.CutParts.{HasOneNameEach}
 
 -- an unfreed object at a place has the last generation there
 last_there : (w : World) (page slot : ℕ) (o : ObjectParts) → IsOrderly w → In o (unfreed_at w.graph w.freed page slot) → o.name.generation ≡ length (objects_at w.graph page slot)

@@ -1,32 +1,30 @@
 -- What each call leaves stands for the next world.
-use Rattle.std.proofs.Common.{◌≡◌, ◌≢◌, inl, inr, ⊎_elim, ℕ, ◌+◌, ◌≤◌, true, false, ◌&&◌, List, [], ◌∷◌, Option, Some, None, refl, sym, subst, ap, ◌∙◌, nat_le}
+use Rattle.std.proofs.Common.{◌≡◌, ◌≢◌, inl, inr, ⊎_elim, ℕ, ◌+◌, ◌≤◌, true, false, List, [], ◌∷◌, Option, Some, None, refl, sym, subst, ap, ◌∙◌, nat_le}
 use Rattle.std.specs.Prelude.{IfSome, IsSomeAnd}
 use Rattle.std.specs.Option.{is_some, is_none, option_map, MatchOption}
 use Rattle.object_graph.specs.NameParts.{NameParts}
 use Rattle.object_graph.specs.declared.calls.Call.{Call}
-use Rattle.object_graph.specs.declared.calls.Call.TheVariants.{Begin, Get, Number, Set, Put, New, Commit, Abort, Reopen}
+use Rattle.object_graph.specs.declared.calls.Call.TheVariants.{Begin, Get, Number, Set, Put, New, Commit, Abort, Sweep, Reopen}
 use Rattle.object_graph.specs.declared.calls.Reply.{Reply}
 use Rattle.object_graph.specs.declared.calls.Reply.TheVariants.{Committed, Refused}
 use Rattle.object_graph.specs.declared.calls.Refusal.{Refusal}
 use Rattle.object_graph.specs.declared.calls.Refusal.TheVariants.{NotOpen, Spent, DiskFault, Broken}
 use Rattle.disk_trait.specs.DiskFacts.{LeavesOnly}
 use Rattle.disk_trait.specs.declared.disk.Disk.{Ghosts as DiskOf}
-use Rattle.disk_trait.proofs.DiskSteps.{started, weaker}
+use Rattle.disk_trait.proofs.DiskSteps.{started}
 use Rattle.disk_trait.specs.Causes.{SameTold}
 use Rattle.redo_journal.specs.Homes.{store_size}
-use Rattle.redo_journal.specs.Record.{RecordParts}
 use Rattle.redo_journal.specs.Journals.{JournalParts}
 use Rattle.redo_journal.proofs.Moments.{if_some_map}
-use Rattle.store_model.specs.Worlds.{World, Transaction, Doubt, no_doubt, commit_in_doubt, sweep_in_doubt, Note, nothing, faults, transaction, find_transaction}
+use Rattle.store_model.specs.Worlds.{World, Transaction, no_doubt, commit_in_doubt, Note, nothing, faults, transaction, find_transaction}
 use Rattle.object_graph.specs.declared.limits.TheConstants.{MOST_COUNTED}
 use Rattle.store_model.specs.Causes.{first_met, first_refusal, new_name, not_open, spent, when}
 use Rattle.store_model.specs.Replies.{AllowsReply, may_fail, is_free, has_note}
 use Rattle.store_model.specs.Steps.{committed, with_new, after_answer, after_reply, after_refusal}
-use Rattle.store_model.specs.Lawful.{IsLawful, IsDoubtOf}
 use Rattle.store_model.proofs.Lawfulness.{event_is_lawful, broken_refuses}
-use Rattle.store_model.specs.States.{State, state_of, state_after}
-use Rattle.image_model.specs.Records.{IsAfterRecord, commit_record}
-use Rattle.image_model.specs.Stands.{StandsFor, StandsForWorld, IsStoreOf}
+use Rattle.store_model.specs.States.{state_of, state_after}
+use Rattle.image_model.specs.Records.{commit_record}
+use Rattle.image_model.specs.Stands.{StandsFor, StandsForWorld}
 use Rattle.transactions.specs.Standing.{TransactionsParts, IsReady, Stands as AreTransactionsOf}
 use Rattle.transactions.specs.Calls.{StepsWell as TransactsWell}
 use Rattle.transactions.specs.Tables.{entry_of}
@@ -41,21 +39,22 @@ use Rattle.cut_core.specs.Writing.{KeepsState, StandsForOneOf, images_written}
 use Rattle.cut_core.specs.declared.store.Store.{Store}
 use Rattle.image_model.proofs.Committing.{commit_makes}
 use Rattle.image_model.proofs.Doubts.{stands_as_before, stands_undoubted, stands_with_commit}
-use Rattle.cut_core.proofs.Crashes.{at_some, if_some, some_of, own_staged, keeps_staged}
 use Rattle.cut_core.proofs.Staging.{written_images, entry_there}
+use Rattle.cut_core.proofs.Recorded.{undoubted, may_fail_there, recorded_stands, unrecorded_stands, IsStaged, staged_by}
 
 -- ---- calls
 
-pub of_transaction : (call : Call) → IsOfStore call → ((txn : ℕ) → call ≢ Commit txn) → IsOfTransaction call
-of_transaction (Commit txn) built other = absurd (other txn refl)
-of_transaction (Begin txn) built other = tt
-of_transaction (Get txn name field) built other = tt
-of_transaction (Number txn name) built other = tt
-of_transaction (Set txn name field target) built other = tt
-of_transaction (Put txn name value) built other = tt
-of_transaction (New txn page) built other = tt
-of_transaction (Abort txn) built other = tt
-of_transaction _ built other = built
+pub of_transaction : (call : Call) → IsOfStore call → ((txn : ℕ) → call ≢ Commit txn) → ((page : ℕ) → call ≢ Sweep page) → IsOfTransaction call
+of_transaction (Commit txn) built other still = absurd (other txn refl)
+of_transaction (Sweep page) built other still = absurd (still page refl)
+of_transaction (Begin txn) built other still = tt
+of_transaction (Get txn name field) built other still = tt
+of_transaction (Number txn name) built other still = tt
+of_transaction (Set txn name field target) built other still = tt
+of_transaction (Put txn name value) built other still = tt
+of_transaction (New txn page) built other still = tt
+of_transaction (Abort txn) built other still = tt
+of_transaction _ built other still = built
 
 cannot_fail : (call : Call) → IsOfTransaction call → may_fail call ≡ false
 cannot_fail (Begin txn) of = refl
@@ -130,6 +129,7 @@ broken_noted (Set txn name field target) count built = refl
 broken_noted (Put txn name value) count built = refl
 broken_noted (New txn page) count built = refl
 broken_noted (Commit txn) count built = refl
+broken_noted (Sweep page) count built = refl
 broken_noted (Abort txn) count built = refl
 broken_noted _ count built = absurd built
 
@@ -146,15 +146,7 @@ pub note_is : (w : World) (call : Call) (reply : Reply) (count : ℕ) → (after
 note_is w call (Refused why) count sound = note_by w call why count sound
 note_is w call reply count sound = refl
 
--- ---- nothing is in doubt
-
-doubt_by : (w : World) (doubt : Doubt) → IsDoubtOf w doubt → w.broken ≡ None → doubt ≡ no_doubt
-doubt_by w no_doubt is sound = refl
-doubt_by w (commit_in_doubt txn) is sound = absurd (let bad : false ≡ true = subst (λ b. (is_some b && is_some (find_transaction w txn)) ≡ true) sound is in cc)
-doubt_by w (sweep_in_doubt page) is sound = absurd (let bad : false ≡ true = subst (λ b. is_some b ≡ true) sound is.broken in cc)
-
-pub undoubted : (w : World) → IsLawful w → w.broken ≡ None → w.doubt ≡ no_doubt
-undoubted w lawful sound = doubt_by w w.doubt lawful.doubt sound
+-- ---- worlds with the same state
 
 -- a file stands for any world with the same state
 pub same_state : (w w2 : World) (file : List ℕ) → w.doubt ≡ no_doubt → w2.pages ≡ w.pages → state_of w2 ≡ state_of w → StandsForWorld file w → StandsForWorld file w2
@@ -297,32 +289,7 @@ module _ {D : Type 0} (disks : DiskOf D) where
     commit_may there few =
         none_first w txn store.commits (sym h.broken ∙ sound) (opened_there (entry_of store.transactions.table txn) (find_transaction w txn) (h.transactions.table.each txn) there) (sym h.commits) few
 
-    -- ---- a commit
-
-    -- what the disk keeps for the world it keeps for its state
-    pub keeps_state : (honest : (disk : D) (c : List ℕ) → disks.content disk ≡ Some c → disks.may_leave disk c) (file : List ℕ) → disks.content store.disk ≡ Some file
-        → KeepsState store.journal (disks.may_leave store.disk) (state_of w) file
-    keeps_state honest file told =
-        let k = at_some (KeepsWorld store.journal (disks.may_leave store.disk) w) (disks.content store.disk) file told h.disk in
-        let calm = sym h.broken ∙ sound in
-        record {
-          synced = k.synced calm;
-          own = k.own calm;
-          stands = subst (λ n. StandsFor file n (state_of w)) (sym (h.pages calm)) (stands_undoubted file w (undoubted w h.lawful calm) (k.stands file (honest store.disk file told)));
-        }
-
--- ---- a commit that is done
-
--- what the disk keeps for the state after a commit it keeps for the world after it
-done_keeps : (journal : JournalParts) (outcomes : List ℕ → Type 0) (w : World) (txn : ℕ) (file : List ℕ) → journal.pages ≡ w.pages
-    → KeepsState journal outcomes (state_after w (transaction w txn)) file → KeepsWorld journal outcomes (committed w txn) file
-done_keeps journal outcomes w txn file pages k = record {
-  stands = λ image left.
-      stands_as_before image (committed w txn)
-      (subst (λ f. StandsFor f w.pages (state_after w (transaction w txn))) (sym (k.synced image left)) (subst (λ n. StandsFor file n (state_after w (transaction w txn))) pages k.stands));
-  synced = λ e. k.synced;
-  own = λ e. k.own;
-}
+-- ---- a commit
 
 -- a file that stands for the state before or after a commit stands for the world before or after it
 pub either_done : (w : World) (txn : ℕ) (file : List ℕ) → StandsForOneOf w.pages (state_of w) (state_after w (transaction w txn)) file → StandsForEither w (committed w txn) file
@@ -345,136 +312,40 @@ module _ {D : Type 0} (disks : DiskOf D) where
       → Steps disks (record { transactions = finished; journal = journal; disk = disk; commits = old.commits + 1; broken = old.broken })
       (event_of (Commit txn) (Committed (old.commits + 1)) count) w
   commit_steps old finished journal disk txn count w h sound may stands long pages counted keeps told =
-      let calm : w.broken ≡ None = sym h.broken ∙ sound in
-      let same : journal.pages ≡ w.pages = pages ∙ h.pages calm in
       let answer : Committed (old.commits + 1) ≡ Committed (w.commits + 1) = ap (λ n. Committed (n + 1)) h.commits in
       let allowed : AllowsReply w (Commit txn) nothing (Committed (old.commits + 1)) = (may, answer) in
       record {
         allowed = (refl, allowed);
-        stands = record {
-          lawful = event_is_lawful w (Commit txn) nothing (Committed (old.commits + 1)) h.lawful allowed;
-          transactions = stands;
-          commits = ap (λ n. n + 1) h.commits;
-          broken = h.broken;
-          long = subst (λ n. store_size w.pages ≤ n) (sym long) h.long;
-          pages = λ e. same;
-          counted = λ e. ap (λ n. n + 1) (sym h.commits) ∙ counted;
-          disk = by (disks.content old.disk) refl (disks.content disk) refl told;
-        };
+        stands = recorded_stands disks old finished journal disk (old.commits + 1) w (committed w txn) h sound
+            (event_is_lawful w (Commit txn) nothing (Committed (old.commits + 1)) h.lawful allowed) stands refl refl (ap (λ n. n + 1) h.commits) long pages counted keeps told;
       }
-    where
-      by : (o : Option (List ℕ)) → disks.content old.disk ≡ o → (n : Option (List ℕ)) → disks.content disk ≡ n → SameTold (disks.content old.disk) (disks.content disk)
-          → IfSome (disks.content disk) (KeepsWorld journal (disks.may_leave disk) (committed w txn))
-      by None is None now same = subst (λ q. IfSome q (KeepsWorld journal (disks.may_leave disk) (committed w txn))) (sym now) tt
-      by None is (Some file) now same = (let e : is_some (disks.content disk) ≡ is_some (disks.content old.disk) = same in let bad : true ≡ false = ap is_some (sym now) ∙ (e ∙ ap is_some is) in absurd cc)
-      by (Some file) is n now same =
-          let d = some_of (KeepsState journal (disks.may_leave disk) (state_after w (transaction w txn))) (disks.content disk) (keeps file is) in
-          if_some (KeepsWorld journal (disks.may_leave disk) (committed w txn)) (disks.content disk) d.0 d.1
-          (done_keeps journal (disks.may_leave disk) w txn d.0 (pages ∙ h.pages (sym h.broken ∙ sound)) d.2)
 
   -- a device call failed: the commit is in doubt
   pub fault_steps : (old : Store D) (journal : JournalParts) (disk : D) (txn count : ℕ) (w : World)
-      → Stands disks old w → old.broken ≡ None → first_refusal w (Commit txn) nothing ≡ None
+      → Stands disks old w → first_refusal w (Commit txn) nothing ≡ None
       → disks.size disk ≡ disks.size old.disk
       → ((file : List ℕ) → disks.content old.disk ≡ Some file → (image : List ℕ) → disks.may_leave disk image → StandsForOneOf w.pages (state_of w) (state_after w (transaction w txn)) image)
       → SameTold (disks.content old.disk) (disks.content disk)
       → Steps disks (record { transactions = old.transactions; journal = journal; disk = disk; commits = old.commits; broken = Some count })
       (event_of (Commit txn) (Refused DiskFault) count) w
-  fault_steps old journal disk txn count w h sound may long leaves told =
-      let allowed : AllowsReply w (Commit txn) (faults count) (Refused DiskFault) =
-      subst (λ (o : Option Refusal). MatchOption o (is_free (Commit txn) DiskFault ≡ true) (λ first. DiskFault ≡ first)) (sym may) refl in
+  fault_steps old journal disk txn count w h may long leaves told =
+      let allowed = may_fail_there w (Commit txn) count may refl in
       record {
         allowed = (refl, allowed);
-        stands = record {
-          lawful = event_is_lawful w (Commit txn) (faults count) (Refused DiskFault) h.lawful allowed;
-          transactions = still_transactions old.transactions w count txn h.transactions;
-          commits = h.commits;
-          broken = refl;
-          long = subst (λ n. store_size w.pages ≤ n) (sym long) h.long;
-          pages = λ e. absurd cc;
-          counted = λ e. absurd cc;
-          disk = by (disks.content old.disk) refl (disks.content disk) refl told;
-        };
+        stands = unrecorded_stands disks old journal disk count w (broken_by w count txn) h
+            (event_is_lawful w (Commit txn) (faults count) (Refused DiskFault) h.lawful allowed)
+            (still_transactions old.transactions w count txn h.transactions) refl refl refl long
+            (λ file is image left. failed_stands w count txn image (leaves file is image left)) told;
       }
-    where
-      by : (o : Option (List ℕ)) → disks.content old.disk ≡ o → (n : Option (List ℕ)) → disks.content disk ≡ n → SameTold (disks.content old.disk) (disks.content disk)
-          → IfSome (disks.content disk) (KeepsWorld journal (disks.may_leave disk) (broken_by w count txn))
-      by o is None now same = subst (λ q. IfSome q (KeepsWorld journal (disks.may_leave disk) (broken_by w count txn))) (sym now) tt
-      by None is (Some file) now same = (let e : is_some (disks.content disk) ≡ is_some (disks.content old.disk) = same in let bad : true ≡ false = ap is_some (sym now) ∙ (e ∙ ap is_some is) in absurd cc)
-      by (Some file) is (Some later) now same =
-          if_some (KeepsWorld journal (disks.may_leave disk) (broken_by w count txn)) (disks.content disk) later now (record {
-            stands = λ image left. failed_stands w count txn image (leaves file is image left);
-            synced = λ e. absurd cc;
-            own = λ e. absurd cc;
-          })
 
--- ---- the record of a commit
-
--- the journal with the record staged: what the disk keeps for it, and what the record does to the state
-pub record IsStaged {D : Type 0} (disks : DiskOf D) (old : Store D) (staged : JournalParts) (txn : ℕ) (w : World) : Type 0 where
-  pub may : first_refusal w (Commit txn) nothing ≡ None
-  pub record_is : staged.staged ≡ Some (commit_record (images_written old.transactions txn))
-  pub pages : staged.pages ≡ w.pages
-  pub after : IsAfterRecord staged.pages (commit_record (images_written old.transactions txn)) (state_of w) (state_after w (transaction w txn))
-  pub keeps : (file : List ℕ) → disks.content old.disk ≡ Some file → KeepsState staged (disks.may_leave old.disk) (state_of w) file
-
-module _ {D : Type 0} (disks : DiskOf D) (honest : (disk : D) (c : List ℕ) → disks.content disk ≡ Some c → disks.may_leave disk c) where
-  pub is_staged : (old : Store D) (staged : JournalParts) (txn : ℕ) (w : World) → Stands disks old w → old.broken ≡ None
+  -- the record of a commit is staged
+  pub is_staged : (honest : (disk : D) (c : List ℕ) → disks.content disk ≡ Some c → disks.may_leave disk c)
+      → (old : Store D) (staged : JournalParts) (txn : ℕ) (w : World) → Stands disks old w → old.broken ≡ None
       → is_some (entry_of old.transactions.table txn) ≡ true → nat_le MOST_COUNTED old.commits ≡ false
       → staged ≡ record old.journal { staged = Some (commit_record (images_written old.transactions txn)) }
-      → IsStaged disks old staged txn w
-  is_staged old staged txn w h sound there few is =
-      let calm : w.broken ≡ None = sym h.broken ∙ sound in
-      let may = commit_may disks old txn w sound h there few in
-      let pages : staged.pages ≡ w.pages = ap (λ (j : JournalParts). j.pages) is ∙ h.pages calm in
+      → IsStaged disks old staged (commit_record (images_written old.transactions txn)) (state_after w (transaction w txn)) w
+  is_staged honest old staged txn w h sound there few is =
       let entry = entry_there (entry_of old.transactions.table txn) there in
-      let images = written_images old.transactions w txn entry.0 entry.1 (is_ready disks old w sound h) in
-      record {
-        may = may;
-        record_is = ap (λ (j : JournalParts). j.staged) is;
-        pages = pages;
-        after = subst (λ n. IsAfterRecord n (commit_record (images_written old.transactions txn)) (state_of w) (state_after w (transaction w txn))) (sym pages)
-            (commit_makes w txn nothing (images_written old.transactions txn) h.lawful may images);
-        keeps = λ file told.
-            keeps_staged old.journal staged (Some (commit_record (images_written old.transactions txn))) (disks.may_leave old.disk) (state_of w) file is
-            (keeps_state disks old txn w sound h honest file told);
-      }
-
-  -- before it is staged
-  pub staged_own : (old : Store D) (staged : JournalParts) (r : Option RecordParts) (w : World) → Stands disks old w → old.broken ≡ None → staged ≡ record old.journal { staged = r }
-      → IfSome (disks.content old.disk) (IsStoreOf staged)
-  staged_own old staged r w h sound is =
-      subst (λ j. IfSome (disks.content old.disk) (IsStoreOf j)) (sym is)
-      (if_some_map (disks.content old.disk) (KeepsWorld old.journal (disks.may_leave old.disk) w) (IsStoreOf (record old.journal { staged = r }))
-      (λ file told k. own_staged old.journal r file (k.own (sym h.broken ∙ sound))) h.disk)
-
-  -- a crash while the record is written leaves the one state or the other
-  abbrev pub RecordLeaves : Store D → D → JournalParts → ℕ → World → Type 0
-  RecordLeaves old disk staged txn w =
-      (file : List ℕ) (r : RecordParts) (s t : State) → disks.content old.disk ≡ Some file → KeepsState staged (disks.may_leave old.disk) s file → staged.staged ≡ Some r → IsAfterRecord staged.pages r s t
-      → LeavesOnly disks old.disk disk (StandsForOneOf staged.pages s t)
-
-  leaves_state : (old : Store D) (disk : D) (staged : JournalParts) (txn : ℕ) (w : World) → IsStaged disks old staged txn w → RecordLeaves old disk staged txn w
-      → (file : List ℕ) → disks.content old.disk ≡ Some file → LeavesOnly disks old.disk disk (StandsForOneOf w.pages (state_of w) (state_after w (transaction w txn)))
-  leaves_state old disk staged txn w k runs file told =
-      subst (λ n. LeavesOnly disks old.disk disk (StandsForOneOf n (state_of w) (state_after w (transaction w txn)))) k.pages
-      (runs file (commit_record (images_written old.transactions txn)) (state_of w) (state_after w (transaction w txn)) told (k.keeps file told) k.record_is k.after)
-
-  -- so it leaves one of two worlds
-  pub leaves_either : (old : Store D) (disk : D) (staged : JournalParts) (txn : ℕ) (w w2 : World) → IsStaged disks old staged txn w → RecordLeaves old disk staged txn w
-      → ((image : List ℕ) → StandsForOneOf w.pages (state_of w) (state_after w (transaction w txn)) image → StandsForEither w w2 image)
-      → Stands disks old w
-      → IfSome (disks.content old.disk) (λ file. LeavesOnly disks old.disk disk (StandsForEither w w2))
-  leaves_either old disk staged txn w w2 k runs each h =
-      if_some_map (disks.content old.disk) (KeepsWorld old.journal (disks.may_leave old.disk) w) (λ file. LeavesOnly disks old.disk disk (StandsForEither w w2))
-      (λ file told kept.
-      weaker disks old.disk disk (StandsForOneOf w.pages (state_of w) (state_after w (transaction w txn))) (StandsForEither w w2) each
-      (leaves_state old disk staged txn w k runs file told)) h.disk
-
-  -- and now too
-  pub leaves_now : (counts_now : (disk : D) (t : ℕ) (c : List ℕ) → t ≤ disks.moment disk → disks.may_leave disk c → disks.left_since disk t c)
-      → (old : Store D) (disk : D) (staged : JournalParts) (txn : ℕ) (w : World) → IsStaged disks old staged txn w → RecordLeaves old disk staged txn w
-      → (file : List ℕ) → disks.content old.disk ≡ Some file → (image : List ℕ) → disks.may_leave disk image → StandsForOneOf w.pages (state_of w) (state_after w (transaction w txn)) image
-  leaves_now counts_now old disk staged txn w k runs file told image left =
-      let l = leaves_state old disk staged txn w k runs file told in
-      l.each image (counts_now disk (disks.moment old.disk) image l.later left)
+      staged_by disks honest old staged (commit_record (images_written old.transactions txn)) (state_after w (transaction w txn)) w h sound is
+      (commit_makes w txn nothing (images_written old.transactions txn) h.lawful (commit_may disks old txn w sound h there few)
+      (written_images old.transactions w txn entry.0 entry.1 (is_ready disks old w sound h)))

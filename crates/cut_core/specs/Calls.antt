@@ -1,10 +1,10 @@
 -- The calls that are built, and their events.
-use Rattle.std.specs.Prelude.{◌≡◌, ◌≤◌, ◌+◌, ℕ, Bool, true, false, ◌⊎◌}
+use Rattle.std.specs.Prelude.{◌≤◌, ◌+◌, ◌==◌, ℕ, Bool, true, false, ◌⊎◌, Option, Some, None, IfSome, if◌then◌else◌}
 use Rattle.object_graph.specs.declared.calls.Call.{Call}
-use Rattle.object_graph.specs.declared.calls.Call.TheVariants.{Begin, Get, Number, Set, Put, New, Commit, Abort, OpenCut, Copy, EndCut, DropCut}
+use Rattle.object_graph.specs.declared.calls.Call.TheVariants.{Begin, Get, Number, Set, Put, New, Commit, Abort, OpenCut, Copy, Sweep, EndCut, DropCut}
 use Rattle.object_graph.specs.declared.calls.Refusal.TheVariants.{DiskFault}
 use Rattle.object_graph.specs.declared.calls.Reply.{Reply}
-use Rattle.object_graph.specs.declared.calls.Reply.TheVariants.{Refused}
+use Rattle.object_graph.specs.declared.calls.Reply.TheVariants.{Refused, Freed}
 use Rattle.store_model.specs.Worlds.{Event, Note, nothing, faults}
 
 -- the calls that the transactions answer
@@ -18,9 +18,10 @@ IsOfTransaction (New txn page) = Unit {0}
 IsOfTransaction (Abort txn) = Unit {0}
 IsOfTransaction call = ⊥
 
--- they and the commit
+-- they and the calls that write to the disk
 abbrev pub IsOfStore : Call → Type 0
 IsOfStore (Commit txn) = Unit {0}
+IsOfStore (Sweep page) = Unit {0}
 IsOfStore call = IsOfTransaction call
 
 -- the calls on the cut that write nothing
@@ -51,10 +52,15 @@ note_of reply count = nothing
 abbrev pub event_of : Call → Reply → ℕ → Event
 event_of call reply count = record { entry = record { lane = 1; call = call; reply = reply }; note = note_of reply count }
 
--- how often a call on the cut reads a frame at most
-abbrev pub most_steps : Call → ℕ
-most_steps (Copy page) = 1
-most_steps call = 0
+-- how often a call on the cut reads or frees in a frame at most: a sweep that frees does both
+abbrev pub most_steps : Call → Reply → Option ℕ
+most_steps OpenCut reply = Some 0
+most_steps (Copy page) reply = Some 1
+most_steps (Sweep page) (Freed slots) = Some (if slots == 0 then 1 else 2)
+most_steps (Sweep page) reply = Some 1
+most_steps EndCut reply = Some 0
+most_steps DropCut reply = Some 0
+most_steps call reply = None
 
-abbrev pub TakesSteps : Call → ℕ → ℕ → Type 0
-TakesSteps call old new = is_of_cut call ≡ true → new ≤ old + most_steps call
+abbrev pub TakesSteps : Call → Reply → ℕ → ℕ → Type 0
+TakesSteps call reply old new = IfSome (most_steps call reply) (λ most. new ≤ old + most)

@@ -1,5 +1,5 @@
 -- The closing of a cut and its marks: events, and what was given out.
-use Rattle.std.specs.Prelude.{◌≡◌, ℕ, ◌≤◌, false, List, Option, Result, Ok, Err, IfSome}
+use Rattle.std.specs.Prelude.{◌≡◌, ℕ, ◌≤◌, false, List, Option, Result, Ok, Err, IfSome, IsSomeAnd}
 use Rattle.object_graph.specs.declared.calls.Phase.TheVariants as phase
 use Rattle.object_graph.specs.declared.calls.Call.{Call}
 use Rattle.object_graph.specs.declared.calls.Call.TheVariants.{Close, Mark}
@@ -11,7 +11,7 @@ use Rattle.store_model.specs.Replies.{AllowsReply}
 use Rattle.store_model.specs.Steps.{after_reply}
 use Rattle.store_model.specs.Worlds.{World, Event, Note, nothing, images, marks}
 use Rattle.cut_model.specs.CutPages.{CutPage}
-use Rattle.cut_model.specs.Standing.{CutBeside}
+use Rattle.cut_model.specs.Standing.{CutBeside, IsCopying}
 use Rattle.cut_builder.specs.CutParts.{ClosedParts, MarkedParts}
 use Rattle.cut_core.specs.Holding.{Holds, phase_of, beside_stage}
 use Rattle.cut_core.specs.declared.held.Held.{Held}
@@ -40,6 +40,10 @@ abbrev pub mark_event : ℕ → Option ℕ → Reply → Event
 mark_event workers number reply = record { entry = record { lane = 1; call = Mark workers; reply = reply }; note = marks number }
 
 -- ---- what was given out
+
+-- this is the world's cut, with images and born slots that are sound for the world
+abbrev pub IsCutOf : World → ClosedParts → Type 0
+IsCutOf w cut = IsSomeAnd w.cut (λ opened. (opened.number ≡ cut.number) × IsCopying w opened cut.pages)
 
 -- where the present cut has this number, it is closed, and these are the images and born slots that it gave out
 pub record HasGiven (w : World) (b : CutBeside) (number : ℕ) (pages : List CutPage) : Type 0 where

@@ -15,7 +15,8 @@ use Rattle.page_image.specs.Pages.{PageParts}
 use Rattle.page_buffer.specs.declared.frame.Frame.{Frame}
 use Rattle.object_graph.specs.Slots.{has_slot}
 use Rattle.store_model.specs.Images.{shown_in}
-use Rattle.cut_model.specs.Changes.{IsMade}
+use Rattle.cut_model.specs.Changes.{IsMade, Adds}
+use Rattle.cut_model.specs.Frames.{copy_now}
 use Rattle.cut_core.specs.Joints.{is_made}
 use Rattle.cut_builder.specs.CutParts as built
 use Rattle.cut_model.specs.CutPages.{CutPage, with_commit}
@@ -89,6 +90,10 @@ before_of_frame frame = if frame.dirty then Some frame.before else None
 -- why a page isn't copied, where there are so many
 abbrev pub copy_refusal : ℕ → List CutPage → ℕ → Option Refusal
 copy_refusal count pages page = first_met (when (not (nat_lt page count)) NoPage ∷ when (is_some (page_of pages page).copy) (AlreadyCopied page) ∷ [])
+
+-- the copy of the page that is its frame as it stands is added to the cut
+abbrev pub AddsFrame : World → ℕ → CutBeside → CutBeside → Type 0
+AddsFrame w page old new = Adds page (copy_now w page) old.pages new.pages
 
 -- a cut that is copied beside the transactions
 pub record Copies (s : TransactionsParts) (cut : CutParts) (w : World) : Type 0 where

@@ -8,3 +8,4 @@ pub mod Joints
 pub mod Holding
 pub mod Whole
 pub mod Given
+pub mod Sweeping

@@ -63,6 +63,12 @@ IsNoteOf (Refused DiskFault) count note = note ≡ faults count
 IsNoteOf (Reopened commits) count note = (names : List NameParts) × (note ≡ found names)
 IsNoteOf reply count note = note ≡ nothing
 
+-- it is the reply to a reopening: so many commits were found, or it is refused
+abbrev pub IsOfReopening : Reply → Type 0
+IsOfReopening (Reopened commits) = Unit {0}
+IsOfReopening (Refused why) = Unit {0}
+IsOfReopening reply = ⊥
+
 -- the reply is allowed under such a note, and this is the next world
 pub record Happens (w : World) (call : Call) (reply : Reply) (count : ℕ) (after : World) : Type 0 where
   pub note : Note

@@ -12,6 +12,8 @@ use Rattle.store_model.specs.Lawful.{IsLawful}
 use Rattle.image_model.specs.Stands.{StandsForWorld, IsStoreOf}
 use Rattle.transactions.specs.Standing.{Stands as AreTransactionsOf}
 use Rattle.cut_core.specs.Seen.{StandsForEither}
+use Rattle.cut_core.specs.Holding.{Holds}
+use Rattle.cut_core.specs.declared.held.Held.{Held}
 use Rattle.cut_core.specs.declared.store.Store.{Store}
 
 -- The disk that tells these bytes keeps the world: what a crash now may leave stands for it. Unless the world is
@@ -37,11 +39,11 @@ pub record Steps {D : Type 0} (disks : DiskOf D) (new : Store D) (e : Event) (w 
   pub allowed : Allows w e
   pub stands : Stands disks new (next w e)
 
--- so it is in each world for which the store stood
-abbrev pub StepsWell : {D : Type 0} → DiskOf D → Store D → Store D → Event → Type 0
-StepsWell {D} disks old new e = (w : World) → Stands disks old w → Steps disks new e w
+-- so it is in each world for which the store stood, with what it held of the cut
+abbrev pub StepsWell : {D : Type 0} → DiskOf D → Store D → Held → Store D → Event → Type 0
+StepsWell {D} disks old held new e = (w : World) → Stands disks old w → Holds held w → Steps disks new e w
 
 -- and a crash at any moment of the call leaves that world or the next
-abbrev pub CrashesWell : {D : Type 0} → DiskOf D → Store D → Store D → Event → Type 0
-CrashesWell {D} disks old new e =
-    (w : World) → Stands disks old w → IfSome (disks.content old.disk) (λ file. LeavesOnly disks old.disk new.disk (StandsForEither w (next w e)))
+abbrev pub CrashesWell : {D : Type 0} → DiskOf D → Store D → Held → Store D → Event → Type 0
+CrashesWell {D} disks old held new e =
+    (w : World) → Stands disks old w → Holds held w → IfSome (disks.content old.disk) (λ file. LeavesOnly disks old.disk new.disk (StandsForEither w (next w e)))

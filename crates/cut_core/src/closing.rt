@@ -8,7 +8,7 @@ ghost use Rattle.object_graph.specs.declared.calls.Phase.TheVariants.{Closed as 
 ghost use Rattle.store_model.specs.Causes.{first_refusal};
 ghost use Rattle.store_model.specs.Worlds.{World, marks};
 ghost use Rattle.cut_core.specs.Holding.{Holds, beside_of, beside_stage};
-ghost use Rattle.cut_core.specs.Given.{closed_reply, closed_note, marked_reply, KeepsGiven, HeldGiven, CutAnswers};
+ghost use Rattle.cut_core.specs.Given.{closed_reply, closed_note, marked_reply, KeepsGiven, HeldGiven, IsCutOf, CutAnswers};
 
 use crate::held::{Held, HeldCut, Stage};
 use cut_builder::{ClosedCut, MarkedCut};
@@ -21,6 +21,7 @@ impl Held {
         requires { (w : World) × Holds self.old w }
         ensures well { (w : World) → Holds self.old w → w.broken ≡ None → CutAnswers self.new w Close (closed_note result) (closed_reply result) }
         ensures out { IfOk result (λ cut. cut.pages ≡ (beside_of self.old.cut).pages) }
+        ensures sound { IfOk result (λ cut. (w : World) → Holds self.old w → IsCutOf w cut) }
         ensures given { KeepsGiven self.old self.new }
         ensures gives { IfOk result (λ cut. HeldGiven self.new cut.number cut.pages) }
         ensures other { (why : AnyRefusal) → result ≡ Err why → why ≢ DiskFault }

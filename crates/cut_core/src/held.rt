@@ -1,7 +1,7 @@
 //! The cut that the core holds, in each phase.
 ghost use Rattle.object_graph.specs.declared.calls.Refusal.{Refusal as AnyRefusal};
 ghost use Rattle.object_graph.specs.declared.calls.Refusal.TheVariants.{DiskFault};
-ghost use Rattle.std.specs.Prelude.{◌≡◌, ◌≢◌, Err, ◌<◌, ◌≤◌, ◌+◌, ℕ, true, false, Some, None, IfOk, IfSome, IfNone, length, replicate, slice_index_or, is_some};
+ghost use Rattle.std.specs.Prelude.{◌≡◌, ◌≢◌, Err, ◌<◌, ◌≤◌, ◌+◌, ℕ, true, false, Some, None, IfOk, OnOk, IfSome, IfNone, length, replicate, slice_index_or, is_some};
 ghost use Rattle.object_graph.specs.declared.calls.Call.TheVariants.{OpenCut, Copy, EndCut, DropCut};
 ghost use Rattle.store_model.specs.Worlds.{World};
 ghost use Rattle.transactions.specs.Standing.{IsReady};
@@ -11,7 +11,7 @@ ghost use Rattle.store_model.specs.Causes.{is_phase};
 ghost use Rattle.store_model.specs.Steps.{committed};
 ghost use Rattle.transactions.specs.Tables.{entry_of};
 ghost use Rattle.cut_model.specs.CutPages.{bare_page};
-ghost use Rattle.cut_core.specs.Holding.{Holds, CutSteps, phase_of};
+ghost use Rattle.cut_core.specs.Holding.{Holds, CutSteps, AddsFrame, phase_of, beside_stage, beside_of};
 ghost use Rattle.cut_core.specs.Given.{KeepsGiven};
 ghost use Rattle.cut_core.specs.declared.held.Stage.TheVariants.{Copying};
 
@@ -97,6 +97,8 @@ fn copy_in<L: Ledger>(
     requires { (w : World) × (last : ℕ) × Holds (record { cut = Some held.old; last_cut = last }) w × IsReady transactions.now w × (w.commits ≡ commits) }
     ensures well { (w : World) (last : ℕ) → Holds (record { cut = Some held.old; last_cut = last }) w → IsReady transactions.now w → w.commits ≡ commits
         → CutSteps (record { cut = Some held.new; last_cut = last }) w (Copy page) (done_reply result) }
+    ensures copied { (w : World) (last : ℕ) → Holds (record { cut = Some held.old; last_cut = last }) w → IsReady transactions.now w → w.commits ≡ commits
+        → OnOk result (AddsFrame w page (beside_stage held.old.stage) (beside_stage held.new.stage)) }
     ensures given { (last : ℕ) → KeepsGiven (record { cut = Some held.old; last_cut = last }) (record { cut = Some held.new; last_cut = last }) }
     ensures other { (why : AnyRefusal) → result ≡ Err why → why ≢ DiskFault }
     ensures step { steps.new ≤ steps.old + 1 }
@@ -188,6 +190,7 @@ impl Held {
         ensures other { result ≢ Reply.Refused DiskFault }
         ensures given { KeepsGiven self.old self.new }
         ensures well { (w : World) → Holds self.old w → IsReady transactions.now w → w.commits ≡ commits → CutSteps self.new w (Copy page) result }
+        ensures copied { (w : World) → Holds self.old w → IsReady transactions.now w → w.commits ≡ commits → result ≡ Reply.Done → AddsFrame w page (beside_of self.old.cut) (beside_of self.new.cut) }
         ensures step { steps.new ≤ steps.old + 1 }
     {
         let Some(held) = &mut self.cut else {

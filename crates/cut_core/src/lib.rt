@@ -10,6 +10,7 @@ mod kept_world;
 mod machine;
 mod reopen;
 mod store;
+mod sweep;
 #[cfg(test)]
 mod tests;
 mod transact;

@@ -1,8 +1,8 @@
 //! The store, beside the world that it stands for.
-ghost use Rattle.std.specs.Prelude.{◌≡◌, ◌≢◌, ◌≤◌, ◌<◌, ◌+◌, ℕ, List, Some, None, Err, IfOk, IfErr, OnOk, IfSome, IsSomeAnd};
-ghost use Rattle.object_graph.specs.declared.calls.Call.TheVariants.{Reopen};
+ghost use Rattle.std.specs.Prelude.{◌≡◌, ◌≢◌, ◌≤◌, ◌<◌, ◌+◌, ℕ, List, Option, Some, None, Err, IfOk, IfErr, OnOk, IfSome, IsSomeAnd};
+ghost use Rattle.object_graph.specs.declared.calls.Call.TheVariants.{Copy, Reopen, Sweep};
 ghost use Rattle.object_graph.specs.declared.calls.Refusal.{Refusal as AnyRefusal};
-ghost use Rattle.object_graph.specs.declared.calls.Reply.TheVariants.{Refused};
+ghost use Rattle.object_graph.specs.declared.calls.Reply.TheVariants.{Done, Freed, Refused};
 ghost use Rattle.object_graph.specs.declared.calls.Refusal.TheVariants.{DiskFault};
 ghost use Rattle.disk_trait.specs.Causes.{Rose};
 ghost use Rattle.disk_trait.specs.DiskFacts.{LeavesOnly, KeepsDisk};
@@ -17,9 +17,11 @@ ghost use Rattle.cut_core.specs.Calls.{IsBuilt, TakesSteps, event_of};
 ghost use Rattle.object_graph.specs.declared.calls.Refusal.TheVariants.{Memory as NoMemory};
 ghost use Rattle.object_graph.specs.declared.calls.Phase.TheVariants.{Closed as ClosedPhase};
 ghost use Rattle.cut_model.specs.CutPages.{CutPage};
+ghost use Rattle.cut_model.specs.Doomed.{AreDoomedOn};
 ghost use Rattle.cut_model.specs.Standing.{IsStanding};
-ghost use Rattle.cut_core.specs.Given.{close_event, mark_event, marked_reply, HasGiven, AreOfTheCut};
-ghost use Rattle.cut_core.specs.Reopening.{Happens, IsOpenedAnew};
+ghost use Rattle.cut_core.specs.Given.{close_event, mark_event, marked_reply, HasGiven, IsCutOf, AreOfTheCut};
+ghost use Rattle.cut_core.specs.Holding.{AddsFrame};
+ghost use Rattle.cut_core.specs.Reopening.{Happens, IsOpenedAnew, IsOfReopening};
 ghost use Rattle.cut_core.specs.Seen.{StandsForEither};
 ghost use Rattle.cut_core.specs.Starts.{IsJustOpened, disk_left};
 
@@ -76,6 +78,8 @@ impl<D: Disk> Core<D> {
 
         // No fault is passed over, or told as something else.
         ensures calm { IfOk result (λ core. D.fault_count core.disk ≡ D.fault_count disk) }
+        ensures calm_none { (left : D) → result ≡ Err (left, OpenFault.NotAStore) → D.fault_count left ≡ D.fault_count disk }
+        ensures calm_bad { (left : D) (at : ℕ) → result ≡ Err (left, OpenFault.Damaged at) → D.fault_count left ≡ D.fault_count disk }
         ensures lack { (left : D) → result ≡ Err (left, OpenFault.Memory) → D.fault_count left ≡ D.fault_count disk }
 
         // The disk, kept or handed back, is as before.
@@ -116,7 +120,7 @@ impl<D: Disk> Core<D> {
     }
 
     /// One call, and its reply. After a refusal the store is as before, but for a disk fault: from
-    /// then on it is broken, and a commit is in doubt.
+    /// then on it is broken, and the commit or the sweep is in doubt.
     pub fn call<L: Ledger>(&mut self, call: Call, steps: &mut Steps<L>) -> Reply
         requires { IsBuilt call }
 
@@ -136,8 +140,17 @@ impl<D: Disk> Core<D> {
         // What a cut gave out as it closed stays.
         ensures given { (number : ℕ) (pages : List CutPage) → HasGiven self.old.world self.old.beside number pages → HasGiven self.new.world self.new.beside number pages }
 
-        // A copy reads one frame at most, and opening, ending and dropping a cut read none.
-        ensures taken { TakesSteps call steps.old steps.new }
+        // A copy is the page's frame as it stands: what is seen there, beside it what is committed where a
+        // transaction wrote the page, and the commits so far.
+        ensures copied { (page : ℕ) → call ≡ Copy page → result ≡ Done → AddsFrame self.old.world page self.old.beside self.new.beside }
+
+        // A sweep frees exactly the slots of the doomed names on its page, and calls the disk only where it frees.
+        ensures freed { (page slots : ℕ) → call ≡ Sweep page → result ≡ Freed slots → AreDoomedOn self.old.beside.roots self.old.beside.pages page slots }
+        ensures idle { (page : ℕ) → call ≡ Sweep page → result ≡ Freed 0 → self.new.disk ≡ self.old.disk }
+
+        // How often a call on the cut reads a frame or frees in one: a copy once at most, a sweep that frees
+        // twice.
+        ensures taken { TakesSteps call result steps.old steps.new }
     {
         let reply = answer(&mut self.store, &mut self.held, self.alloc, &call, steps);
         let faults = self.store.disk.faults();
@@ -154,6 +167,7 @@ impl<D: Disk> Core<D> {
     /// of memory, and where the disk holds no store any more, it is as before; after a disk fault it
     /// is broken.
     pub fn reopen(&mut self) -> Reply
+        ensures answer { IsOfReopening result }
         // Where the disk tells, the reply is one that the model allows, and the world is the next.
         ensures happens { IfSome (D.content self.old.disk) (λ file. Happens self.old.world Reopen result (D.fault_count self.new.disk) self.new.world) }
         // Where it doesn't, the world is one that the store opens to.
@@ -183,6 +197,7 @@ impl<D: Disk> Core<D> {
         ensures allowed { Allows self.old.world (close_event result) }
         ensures world { self.new.world ≡ next self.old.world (close_event result) }
         ensures out { IfOk result (λ cut. cut.pages ≡ self.old.beside.pages) }
+        ensures sound { IfOk result (λ cut. IsCutOf self.old.world cut) }
         ensures gives { IfOk result (λ cut. HasGiven self.new.world self.new.beside cut.number cut.pages) }
         ensures given { (number : ℕ) (pages : List CutPage) → HasGiven self.old.world self.old.beside number pages → HasGiven self.new.world self.new.beside number pages }
         ensures disk { self.new.disk ≡ self.old.disk }
@@ -200,7 +215,8 @@ impl<D: Disk> Core<D> {
 
     /// The number of the cut that is closed, to which marks may be given.
     pub fn may_mark(&self) -> Result<u64, Refusal>
-        ensures refused { (why : AnyRefusal) → result ≡ Err why → (workers : ℕ) → Allows self.now.world (mark_event workers None (Refused why)) }
+        // Whichever marks, or none, would be given.
+        ensures refused { (why : AnyRefusal) → result ≡ Err why → (workers : ℕ) (number : Option ℕ) → Allows self.now.world (mark_event workers number (Refused why)) }
         // Where marking finds no memory, that is allowed as the reply.
         ensures memory { OnOk result ((workers : ℕ) → Allows self.now.world (mark_event workers None (Refused NoMemory))) }
         ensures number { IfOk result (λ n. IsSomeAnd self.now.world.cut (λ cut. (cut.number ≡ n) × (cut.phase ≡ ClosedPhase))) }

@@ -34,7 +34,7 @@ impl<D: Disk> Store<D> {
     ghost use Rattle.object_graph.specs.declared.calls.Refusal.{Refusal as AnyRefusal};
     ghost use Rattle.store_model.specs.Steps.{next};
     ghost use Rattle.cut_core.specs.Calls.{event_of};
-    ghost use Rattle.cut_core.specs.Reopening.{IsReopened, IsOpenedAnew, HasNoCut, Happens, refusal_of};
+    ghost use Rattle.cut_core.specs.Reopening.{IsReopened, IsOpenedAnew, HasNoCut, Happens, IsOfReopening, refusal_of};
     ghost use Rattle.cut_core.specs.Given.{KeepsGiven};
     ghost use Rattle.cut_core.specs.Holding.{Holds};
     ghost use Rattle.cut_core.specs.Seen.{StandsForEither};
@@ -100,6 +100,7 @@ impl<D: Disk> Store<D> {
     ) -> (Reply, Told<KeptWorld>)
         requires stands { Stands D.Disk self.old told.now.value }
         requires holds { Holds held.old told.now.value }
+        ensures answer { IsOfReopening result.0 }
         ensures holds { Holds held.new result.1.value }
         ensures given { KeepsGiven held.old held.new }
         ensures stands { Stands D.Disk self.new result.1.value }

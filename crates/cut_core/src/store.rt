@@ -20,17 +20,18 @@ pub struct Store<D: Disk> {
 }
 
 impl<D: Disk> Store<D> {
-    ghost use Rattle.std.specs.Prelude.{◌≡◌, ◌≢◌, None};
-    ghost use Rattle.object_graph.specs.declared.calls.Call.TheVariants.{Commit};
+    ghost use Rattle.std.specs.Prelude.{◌≡◌, ◌≢◌, ℕ, None};
+    ghost use Rattle.object_graph.specs.declared.calls.Call.TheVariants.{Commit, Sweep};
     ghost use Rattle.object_graph.specs.declared.calls.Refusal.TheVariants.{DiskFault};
-    ghost use Rattle.object_graph.specs.declared.calls.Reply.TheVariants.{Refused};
+    ghost use Rattle.object_graph.specs.declared.calls.Reply.TheVariants.{Refused, Freed};
     ghost use Rattle.disk_trait.specs.Causes.{Rose};
     ghost use Rattle.disk_trait.specs.DiskFacts.{KeepsDisk};
     ghost use Rattle.store_model.specs.Worlds.{World};
     ghost use Rattle.store_model.specs.Steps.{next};
-    ghost use Rattle.cut_core.specs.Calls.{IsOfStore, event_of};
+    ghost use Rattle.cut_model.specs.Doomed.{AreDoomedOn};
+    ghost use Rattle.cut_core.specs.Calls.{IsOfStore, TakesSteps, event_of};
     ghost use Rattle.cut_core.specs.Given.{KeepsGiven};
-    ghost use Rattle.cut_core.specs.Holding.{Holds};
+    ghost use Rattle.cut_core.specs.Holding.{Holds, beside_of};
     ghost use Rattle.cut_core.specs.Standing.{Stands, StepsWell, CrashesWell};
 
     /// One call, and its reply.
@@ -39,11 +40,14 @@ impl<D: Disk> Store<D> {
         requires stands { (w : World) × Stands D.Disk self.old w × Holds held.old w }
         ensures held { (w : World) → Stands D.Disk self.old w → Holds held.old w → Holds held.new (next w (event_of call.now result (D.fault_count self.new.disk))) }
         ensures given { KeepsGiven held.old held.new }
-        ensures steps { StepsWell D.Disk self.old self.new (event_of call.now result (D.fault_count self.new.disk)) }
-        ensures any_moment { CrashesWell D.Disk self.old self.new (event_of call.now result (D.fault_count self.new.disk)) }
+        ensures steps { StepsWell D.Disk self.old held.old self.new (event_of call.now result (D.fault_count self.new.disk)) }
+        ensures any_moment { CrashesWell D.Disk self.old held.old self.new (event_of call.now result (D.fault_count self.new.disk)) }
         ensures fault { result ≡ Refused DiskFault → Rose (D.fault_count self.old.disk) (D.fault_count self.new.disk) }
         ensures calm { result ≢ Refused DiskFault → D.fault_count self.new.disk ≡ D.fault_count self.old.disk }
         ensures keeps { KeepsDisk D.Disk self.old.disk self.new.disk }
+        ensures freed { (page slots : ℕ) → call.now ≡ Sweep page → result ≡ Freed slots → AreDoomedOn (beside_of held.old.cut).roots (beside_of held.old.cut).pages page slots }
+        ensures idle { (page : ℕ) → call.now ≡ Sweep page → result ≡ Freed 0 → self.new.disk ≡ self.old.disk }
+        ensures taken { TakesSteps call.now result steps.old steps.new }
     {
         if let Some(faults) = self.broken {
             return Reply::Refused {
@@ -52,6 +56,7 @@ impl<D: Disk> Store<D> {
         }
         match *call {
             Call::Commit { txn } => self.commit(held, txn, steps),
+            Call::Sweep { page } => self.sweep(held, page, steps),
             _ => transact(&mut self.transactions, call, steps),
         }
     }
@@ -63,8 +68,8 @@ impl<D: Disk> Store<D> {
         requires stands { (w : World) × Stands D.Disk self.old w × Holds held.old w }
         ensures held { (w : World) → Stands D.Disk self.old w → Holds held.old w → Holds held.new (next w (event_of (Commit txn) result (D.fault_count self.new.disk))) }
         ensures given { KeepsGiven held.old held.new }
-        ensures steps { StepsWell D.Disk self.old self.new (event_of (Commit txn) result (D.fault_count self.new.disk)) }
-        ensures any_moment { CrashesWell D.Disk self.old self.new (event_of (Commit txn) result (D.fault_count self.new.disk)) }
+        ensures steps { StepsWell D.Disk self.old held.old self.new (event_of (Commit txn) result (D.fault_count self.new.disk)) }
+        ensures any_moment { CrashesWell D.Disk self.old held.old self.new (event_of (Commit txn) result (D.fault_count self.new.disk)) }
         ensures fault { result ≡ Refused DiskFault → Rose (D.fault_count self.old.disk) (D.fault_count self.new.disk) }
         ensures calm { result ≢ Refused DiskFault → D.fault_count self.new.disk ≡ D.fault_count self.old.disk }
         ensures keeps { KeepsDisk D.Disk self.old.disk self.new.disk }

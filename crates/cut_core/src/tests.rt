@@ -121,6 +121,7 @@ fn is_built(call: &Call) -> bool
         Call::Abort { txn: _ } => true,
         Call::OpenCut => true,
         Call::Copy { page: _ } => true,
+        Call::Sweep { page: _ } => true,
         Call::EndCut => true,
         Call::DropCut => true,
         _ => false,

@@ -12,6 +12,6 @@ pub call-requires-clause-built : goal.call-requires-clause-built
 call-requires-clause-built g c = of_store c.args.call.now c.requires.built (sym c.is_on_cut.ensures ∙ c.if-is_on_cut.false)
 
 pub returns-then-is_on_cut-clause-any_moment : goal.returns-then-is_on_cut-clause-any_moment
-returns-then-is_on_cut-clause-any_moment g c = λ w h.
+returns-then-is_on_cut-clause-any_moment g c = λ w h holds.
     no_device_call g.D.Disk g.met.D.Disk.only_now c.args.store.now c.args.store.now.disk w
     (next w (event_of c.args.call.now c.call_cut.result (g.D.Disk.fault_count c.args.store.now.disk))) refl h

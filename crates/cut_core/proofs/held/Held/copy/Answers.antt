@@ -1,7 +1,7 @@
-use Rattle.std.proofs.Common.{Some, sym, subst, ap, ◌∙◌}
+use Rattle.std.proofs.Common.{Some, sym, subst, ap, ◌∙◌, OnOk}
 use Rattle.object_graph.specs.declared.calls.Call.TheVariants.{Copy}
 use Rattle.object_graph.specs.Replies.{done_reply}
-use Rattle.cut_core.specs.Holding.{CutSteps}
+use Rattle.cut_core.specs.Holding.{CutSteps, AddsFrame, beside_of, beside_stage}
 use Rattle.cut_core.proofs.Closings.{given_as}
 use Rattle.cut_core.proofs.Holding.{same_cut}
 use Rattle.cut_core.proofs.held.Held.copy.Goals as goal
@@ -21,3 +21,9 @@ returns-in-Ok-clause-given g c = λ number pages was. c.copy_in.ensures.given c.
 
 pub returns-in-Err-clause-given : goal.returns-in-Err-clause-given
 returns-in-Err-clause-given g c = λ number pages was. c.copy_in.ensures.given c.args.self.now.last_cut number pages (given_as c.args.self.now c.in-Some.held number pages c.in-Some.is was)
+
+pub returns-in-Ok-clause-copied : goal.returns-in-Ok-clause-copied
+returns-in-Ok-clause-copied g c = λ w h ready commits done.
+    subst (λ o. AddsFrame w c.args.page (beside_of o) (beside_stage c.copy_in.new.held.stage)) (sym c.in-Some.is)
+    (subst (λ r. OnOk r (AddsFrame w c.args.page (beside_stage c.in-Some.held.stage) (beside_stage c.copy_in.new.held.stage))) c.in-Ok.is
+    (c.copy_in.ensures.copied w c.args.self.now.last_cut (same_cut c.args.self.now c.in-Some.held w c.in-Some.is h) ready commits))

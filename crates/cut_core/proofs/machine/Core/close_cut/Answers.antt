@@ -1,4 +1,4 @@
-use Rattle.std.proofs.Common.{sym, subst, ◌∙◌}
+use Rattle.std.proofs.Common.{sym, subst, ◌∙◌, rules}
 use Rattle.object_graph.specs.declared.calls.Call.TheVariants.{Close}
 use Rattle.store_model.specs.Steps.{next}
 use Rattle.cut_core.specs.Given.{HasGiven, close_event, closed_note, closed_reply}
@@ -24,3 +24,6 @@ returns-clause-given g c = λ number pages was.
     (keeps_seen c.self.inside.held c.close-answer.new.self w (next w (close_event c.close-answer.result)) number pages c.close-answer.ensures.given h.holds
     (c.close-answer.ensures.well w h.holds (sym h.stands.broken ∙ c.in_default.is)).holds
     (subst (λ (s : Seen g.row.D.Denot). HasGiven s.world s.beside number pages) (sym c.self.view_is) was))
+
+pub returns-clause-sound : goal.returns-clause-sound
+returns-clause-sound g c = search rules
