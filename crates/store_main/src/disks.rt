@@ -21,7 +21,7 @@ const MEMORY_BYTES: u64 = HOMES_START + PAGE_SIZE as u64 * MEMORY_PAGES;
 pub const FILE_BYTES: u64 = HOMES_START + PAGE_SIZE as u64 * MOST_PAGES as u64;
 
 /// A disk in memory on which a store of 16 pages was made.
-pub fn fresh_store<R: AllocGlobal + Threads>(rt: &R) -> Result<MemDisk, Status> {
+pub fn fresh_store<R: AllocGlobal + Threads + Sync>(rt: &R) -> Result<MemDisk, Status> {
     let alloc = rt.alloc();
     let words = make_words(alloc)?;
     let disk = MemDisk::new(alloc, MEMORY_BYTES, Vec::new(alloc)).map_err(|_| Status::Memory)?;

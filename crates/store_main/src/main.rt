@@ -71,7 +71,7 @@ fn command_line<R: Env + AllocGlobal>(rt: &R) -> Result<(String, Vec<String>), S
 }
 
 /// Runs the command on the disk of that name.
-fn run_command<R: AllocGlobal + Input + Print + Threads + Files<File = File>>(
+fn run_command<R: AllocGlobal + Input + Print + Threads + Sync + Files<File = File>>(
     rt: &R,
     name: &str,
     words: &[String],
@@ -105,7 +105,7 @@ fn is_make(words: &[String]) -> bool {
 
 /// Runs the command between standard input and standard output. Replies go out in large pieces, and
 /// always before more input is read.
-fn run_on<R: AllocGlobal + Input + Print + Threads, D: Disk + Drop>(
+fn run_on<R: AllocGlobal + Input + Print + Threads + Sync, D: Disk + Drop>(
     rt: &R,
     words: &[String],
     disk: D,

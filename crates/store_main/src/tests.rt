@@ -10,7 +10,7 @@ use std::thread::Threads;
 use store_run::{Status, top};
 
 // Runs a command over the file, and compares what it wrote.
-fn run_over<R: AllocGlobal + Threads + Abort>(
+fn run_over<R: AllocGlobal + Threads + Sync + Abort>(
     rt: &R,
     disk: FileDisk,
     words: &[&str],

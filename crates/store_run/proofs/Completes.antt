@@ -9,10 +9,9 @@ use Rattle.image_model.specs.Stores.{HasFault}
 use Rattle.store_model.specs.Worlds.{Event}
 use Rattle.script_lang.specs.declared.line.Line.{Line}
 use Rattle.script_lang.specs.declared.line.TheConstants.{LINE_LIMIT}
-use Rattle.script_lang.specs.Script.{lines_of, onto_first}
+use Rattle.script_lang.specs.Script.{lines_of, onto_first, Says}
 use Rattle.store_run.specs.Complete.{IsScript, IsDoneOrMemory}
-use Rattle.store_run.specs.Built.{Means}
-use Rattle.store_run.specs.Following.{MeanInTurn}
+use Rattle.store_run.specs.Following.{SayInTurn}
 use Rattle.store_run.specs.Pieces.{whole_lines, onto_whole}
 use Rattle.store_run.specs.declared.pieces.TheConstants.{SCRIPT_LIMIT}
 use Rattle.store_run.specs.Ran.{Ran, RunBy, FollowsToBad, EndsLine}
@@ -121,14 +120,14 @@ goes_on (b ∷ front) more good bad e =
 
 -- ---- a line of a script is in the grammar
 
-meant_at : (good : List (List ℕ)) (bad : List ℕ) (later : List (List ℕ)) (meanings : List Line) → MeanInTurn (good ++ bad ∷ later) meanings → (m : Line) × Means bad m
+meant_at : (good : List (List ℕ)) (bad : List ℕ) (later : List (List ℕ)) (meanings : List Line) → SayInTurn (good ++ bad ∷ later) meanings → (m : Line) × Says bad m
 meant_at [] bad later [] s = absurd s
 meant_at [] bad later (m ∷ meanings) s = (m, s.0)
 meant_at (g ∷ good) bad later [] s = absurd s
 meant_at (g ∷ good) bad later (m ∷ meanings) s = meant_at good bad later meanings s.1
 
-says : (script : List ℕ) (good : List (List ℕ)) (bad : List ℕ) (later : List (List ℕ)) → IsScript script → lines_of script ≡ good ++ bad ∷ later → (m : Line) × Means bad m
-says script good bad later s e = meant_at good bad later s.meanings (subst (λ (lines : List (List ℕ)). MeanInTurn lines s.meanings) e s.mean)
+says : (script : List ℕ) (good : List (List ℕ)) (bad : List ℕ) (later : List (List ℕ)) → IsScript script → lines_of script ≡ good ++ bad ∷ later → (m : Line) × Says bad m
+says script good bad later s e = meant_at good bad later s.meanings (subst (λ (lines : List (List ℕ)). SayInTurn lines s.meanings) e s.say)
 
 whole_text : (script taken front rest behind : List ℕ) → script ≡ taken ++ behind → taken ≡ front ++ rest → script ≡ front ++ (rest ++ behind)
 whole_text script taken front rest behind s t = s ∙ (ap (λ x. x ++ behind) t ∙ append_assoc front rest behind)
@@ -153,7 +152,7 @@ no_bad_line pages script taken left history line column s t f =
     let g = goes_on f.front (f.rest ++ t.rest) f.good f.bad f.lines in
     let said = says script f.good (f.bad ++ g.more) g.later s (ap lines_of whole ∙ g.is) in
     let len : LINE_LIMIT < length (f.bad ++ g.more) = omega (arith, length-append f.bad g.more, long.1) in
-    too_long (f.bad ++ g.more) len said.0 said.1.0)
+    too_long (f.bad ++ g.more) len said.0 said.1)
     f.judged
 
 not_too_long : (script taken : List ℕ) (left : Option (List ℕ)) → IsScript script → TakenOf script left taken → length taken ≡ SCRIPT_LIMIT + 1 → ⊥

@@ -1,28 +1,30 @@
 -- Lines one after the other.
-use Rattle.std.proofs.Common.{◌≤◌, ◌≡◌, refl, sym, ap, ◌∙◌, subst, ℕ, ◌+◌, ◌<◌, List, [], ◌∷◌, ◌++◌, length, Option, Some, None, inl, inr, append_assoc, append-nil, arith, length-append}
-use Rattle.std.specs.Prelude.{Err, is_some}
+use Rattle.std.proofs.Common.{◌≤◌, ◌≡◌, refl, sym, ap, ◌∙◌, subst, ℕ, ◌+◌, ◌<◌, Bool, true, false, List, [], ◌∷◌, ◌++◌, length, Option, Some, None, inl, inr, append_assoc, append-nil, arith, length-append}
+use Rattle.std.specs.Prelude.{Result, Ok, Err, is_some, slice_get}
 use Rattle.std.proofs.KnownBytes.{Appends-nil, Appends-trans}
 use Rattle.std.specs.Io.KnownBytes.{Appends}
 use Rattle.object_graph.specs.declared.calls.Call.{Call}
-use Rattle.object_graph.specs.declared.calls.Reply.{Reply}
 use Rattle.disk_trait.specs.declared.disk.Disk.{Ghosts as DiskOf}
-use Rattle.store_model.specs.Texts.{history_text, reply_text}
-use Rattle.script_lang.specs.declared.line.Line.TheVariants.{One, Note}
+use Rattle.store_model.specs.Histories.{collection}
+use Rattle.store_model.specs.Texts.{event_text, history_text}
+use Rattle.store_model.specs.Worlds.{Event}
+use Rattle.script_lang.specs.declared.line.Line.TheVariants.{One, Collect, Note}
 use Rattle.script_lang.specs.declared.line.TheConstants.{LINE_LIMIT}
 use Rattle.script_lang.specs.Script.{lines_of}
 use Rattle.script_lang.specs.Words.{SplitsAt, Without}
 use Rattle.cut_core.specs.Seen.{Seen}
-use Rattle.store_run.specs.Acts.{Acts, Answered, event_with}
-use Rattle.store_run.specs.Built.{Means}
-use Rattle.store_run.specs.Following.{FollowsLines}
-use Rattle.store_run.specs.Lines.{LinesDone, LinesCut, LineBad, LineRan, FrontDone, FrontBad, FrontCut, FrontStopped, EndRan}
-use Rattle.store_run.specs.Ran.{end_status}
+use Rattle.store_machine.specs.Acts.{Acts}
+use Rattle.script_lang.specs.Script.{Says}
+use Rattle.store_run.specs.Following.{FollowsLines, FollowsFront}
+use Rattle.store_run.specs.Lines.{CallDone, CallCut, CallRan, CallsDone, CollectionDone, CollectionCut, CollectionRan, LinesDone, LinesCut, LineBad, LineRan, FrontDone, FrontBad, FrontCut, FrontStopped, EndRan}
+use Rattle.store_run.specs.Ran.{CutText, end_status}
 use Rattle.store_run.specs.Writing.{AppendsFront}
 use Rattle.store_run.specs.declared.status.Status.{Status}
 use Rattle.store_run.specs.declared.status.Status.TheVariants.{BadLine, WriteFault}
-use Rattle.store_run.proofs.Acting.{acts_join}
-use Rattle.store_run.proofs.Histories.{lines_join, no_lines, note_line, call_line, text_join, texts_join}
-use Rattle.store_run.proofs.Pages.{pages-after}
+use Rattle.store_machine.proofs.Acting.{acts_join}
+use Rattle.store_run.proofs.Histories.{lines_join, front_join, no_lines, note_line, call_line, call_front, collect_line, collect_front, text_join, texts_join}
+use Rattle.store_machine.proofs.Collecting.{made_none, made_more, made_last, made_begun, made_all}
+use Rattle.store_machine.proofs.Pages.{pages-run}
 use Rattle.store_run.proofs.WholeLines.{one_whole, none_whole, whole_join, lines_are, whole_are, unended_line, long_bad}
 
 module _ {D : Type 0} (disks : DiskOf D) where
@@ -31,40 +33,108 @@ module _ {D : Type 0} (disks : DiskOf D) where
   pub nothing_done : (s : Seen D) (a : Option (List ℕ)) → Acts disks s s [] → LinesDone disks s [] s a a
   nothing_done s a acts = record { history = []; acts = acts; follows = no_lines s.world.pages; written = Appends-nil a }
 
-  pub note_done : (s : Seen D) (line : List ℕ) (a : Option (List ℕ)) → Means line Note → Acts disks s s []
+  pub note_done : (s : Seen D) (line : List ℕ) (a : Option (List ℕ)) → Says line Note → Acts disks s s []
       → LinesDone disks s (line ∷ []) s a a
   note_done s line a says acts = record { history = []; acts = acts; follows = note_line s.world.pages line says; written = Appends-nil a }
 
-  pub call_done : (old new : Seen D) (line : List ℕ) (call : Call) (reply : Reply) (a b : Option (List ℕ)) (out : List ℕ) → Means line (One call)
-      → Answered disks old new call reply → out ≡ reply_text reply ++ 10 ∷ [] → Appends a b out
+  pub call_done : (old new : Seen D) (line : List ℕ) (call : Call) (refused : Bool) (a b : Option (List ℕ)) → Says line (One call) → CallDone disks old call refused new a b
       → LinesDone disks old (line ∷ []) new a b
-  call_done old new line call reply a b out says answered e h = record {
-    history = event_with call reply answered.note ∷ [];
-    acts = answered.acts;
-    follows = call_line old.world.pages line call (event_with call reply answered.note) refl says;
-    written = subst (λ (x : List ℕ). Appends a b x) (e ∙ sym (append-nil (reply_text reply ++ 10 ∷ []))) h;
+  call_done old new line call refused a b says x = record {
+    history = x.event ∷ [];
+    acts = x.acts;
+    follows = call_line old.world.pages line call x.event x.call_is says;
+    written = subst (λ (t : List ℕ). Appends a b t) (sym (append-nil (event_text x.event))) x.written;
   }
 
-  pub call_cut : (old new : Seen D) (line : List ℕ) (call : Call) (reply : Reply) (a b : Option (List ℕ)) (out : List ℕ) → Means line (One call)
-      → Answered disks old new call reply → out ≡ reply_text reply ++ 10 ∷ [] → AppendsFront a b out
-      → LinesCut disks old (line ∷ []) new a b
-  call_cut old new line call reply a b out says answered e h = record {
-    history = event_with call reply answered.note ∷ [];
-    acts = answered.acts;
-    follows = call_line old.world.pages line call (event_with call reply answered.note) refl says;
+  -- a front of the text of one more event
+  one_cut : (a b : Option (List ℕ)) (e : Event) → AppendsFront a b (event_text e) → CutText a b (e ∷ [])
+  one_cut a b e h = record { earlier = []; last = e; front = h.front; rest = h.rest; split = refl; text = h.whole; some = h.some; appends = h.appends }
+
+  pub call_cut : (old new : Seen D) (line : List ℕ) (call : Call) (a b : Option (List ℕ)) → Says line (One call) → CallCut disks old call new a b → LinesCut disks old (line ∷ []) new a b
+  call_cut old new line call a b says x = record {
+    history = x.event ∷ [];
+    acts = x.acts;
+    follows = call_front old.world.pages line call x.event x.call_is says;
+    written = one_cut a b x.event x.written;
+  }
+
+  pub one_ran : (old new : Seen D) (line : List ℕ) (call : Call) (a b : Option (List ℕ)) (number : ℕ) (status : Status) → Says line (One call) → CallRan disks old call new a b (Err status)
+      → LineRan disks old line new a b number (Err status)
+  one_ran old new line call a b number WriteFault says x = call_cut old new line call a b says x
+  one_ran old new line call a b number _ says x = absurd x
+
+  pub collection_ran : (old new : Seen D) (line : List ℕ) (workers : ℕ) (a b : Option (List ℕ)) (number : ℕ) (result : Result (Unit {0}) Status) → Says line (Collect workers)
+      → CollectionRan disks old workers new a b result → LineRan disks old line new a b number result
+  collection_ran old new line workers a b number (Ok done) says x =
+      record { history = x.history; acts = x.acts; follows = collect_line old.world.pages workers line x.history says x.makes; written = x.written }
+  collection_ran old new line workers a b number (Err WriteFault) says x =
+      record { history = x.history; acts = x.acts; follows = collect_front old.world.pages workers line x.history says x.starts; written = x.written }
+  collection_ran old new line workers a b number (Err _) says x = absurd x
+
+  -- ---- the calls of a line
+
+  pub calls_start : (s : Seen D) (calls : List Call) (a : Option (List ℕ)) → Acts disks s s [] → CallsDone disks s calls 0 s a a
+  calls_start s calls a acts = record { history = []; acts = acts; made = made_none calls; written = Appends-nil a }
+
+  text_more : (h i j : Option (List ℕ)) (history : List Event) (e : Event) → Appends h i (history_text history) → Appends i j (event_text e) → Appends h j (history_text (history ++ e ∷ []))
+  text_more h i j history e x y =
+      subst (λ (t : List ℕ). Appends h j t) (ap (λ t. history_text history ++ t) (sym (append-nil (event_text e))) ∙ sym (text_join history (e ∷ [])))
+      (Appends-trans h i j (history_text history) (event_text e) x y)
+
+  pub calls_more : (a b c : Seen D) (calls : List Call) (count : ℕ) (call : Call) (h i j : Option (List ℕ)) → CallsDone disks a calls count b h i → slice_get calls count ≡ Some call
+      → CallDone disks b call false c i j → CallsDone disks a calls (count + 1) c h j
+  calls_more a b c calls count call h i j x at y = record {
+    history = x.history ++ y.event ∷ [];
+    acts = acts_join disks a b c x.history (y.event ∷ []) x.acts y.acts;
+    made = made_more calls count x.history call y.event x.made at y.call_is y.refused_is;
+    written = text_more h i j x.history y.event x.written y.written;
+  }
+
+  pub calls_refused : (a b c : Seen D) (workers count : ℕ) (call : Call) (h i j : Option (List ℕ)) → CallsDone disks a (collection a.world.pages workers) count b h i
+      → slice_get (collection a.world.pages workers) count ≡ Some call → CallDone disks b call true c i j → CollectionDone disks a workers c h j
+  calls_refused a b c workers count call h i j x at y = record {
+    history = x.history ++ y.event ∷ [];
+    acts = acts_join disks a b c x.history (y.event ∷ []) x.acts y.acts;
+    makes = made_last (collection a.world.pages workers) count x.history call y.event x.made at y.call_is y.refused_is;
+    written = text_more h i j x.history y.event x.written y.written;
+  }
+
+  calls_cut : (a b c : Seen D) (workers count : ℕ) (call : Call) (h i j : Option (List ℕ)) → CallsDone disks a (collection a.world.pages workers) count b h i
+      → slice_get (collection a.world.pages workers) count ≡ Some call → CallCut disks b call c i j → CollectionCut disks a workers c h j
+  calls_cut a b c workers count call h i j x at y = record {
+    history = x.history ++ y.event ∷ [];
+    acts = acts_join disks a b c x.history (y.event ∷ []) x.acts y.acts;
+    starts = made_begun (collection a.world.pages workers) count x.history call y.event x.made at y.call_is;
     written = record {
-      earlier = [];
-      last = event_with call reply answered.note;
-      front = h.front;
-      rest = h.rest;
+      earlier = x.history;
+      last = y.event;
+      front = y.written.front;
+      rest = y.written.rest;
       split = refl;
-      text = sym e ∙ h.whole;
-      some = h.some;
-      appends = h.appends;
+      text = y.written.whole;
+      some = y.written.some;
+      appends = Appends-trans h i j (history_text x.history) y.written.front x.written y.written.appends;
     };
   }
 
+  pub calls_stop : (a b c : Seen D) (workers count : ℕ) (call : Call) (h i j : Option (List ℕ)) (status : Status) → CallsDone disks a (collection a.world.pages workers) count b h i
+      → slice_get (collection a.world.pages workers) count ≡ Some call → CallRan disks b call c i j (Err status) → CollectionRan disks a workers c h j (Err status)
+  calls_stop a b c workers count call h i j WriteFault x at y = calls_cut a b c workers count call h i j x at y
+  calls_stop a b c workers count call h i j _ x at y = absurd y
+
+  pub calls_all : (a b : Seen D) (workers count : ℕ) (h i : Option (List ℕ)) → CallsDone disks a (collection a.world.pages workers) count b h i
+      → slice_get (collection a.world.pages workers) count ≡ None → CollectionDone disks a workers b h i
+  calls_all a b workers count h i x none = record {
+    history = x.history;
+    acts = x.acts;
+    makes = made_all (collection a.world.pages workers) count x.history x.made none;
+    written = x.written;
+  }
+
   -- ---- more lines
+
+  same_pages : (a b : Seen D) (history : List Event) → Acts disks a b history → b.world.pages ≡ a.world.pages
+  same_pages a b history acts = pages-run (is_some (disks.content a.disk)) a.world b.world history acts.runs
 
   pub done_join : (a b c : Seen D) (first second : List (List ℕ)) (h i j : Option (List ℕ)) → LinesDone disks a first b h i
       → LinesDone disks b second c i j → LinesDone disks a (first ++ second) c h j
@@ -72,7 +142,7 @@ module _ {D : Type 0} (disks : DiskOf D) where
     history = x.history ++ y.history;
     acts = acts_join disks a b c x.history y.history x.acts y.acts;
     follows = lines_join a.world.pages first second x.history y.history x.follows
-        (subst (λ (pages : ℕ). FollowsLines pages second y.history) (ap (λ w. w.pages) x.acts.is ∙ pages-after a.world x.history) y.follows);
+        (subst (λ (pages : ℕ). FollowsLines pages second y.history) (same_pages a b x.history x.acts) y.follows);
     written = subst (λ (t : List ℕ). Appends h j t) (sym (text_join x.history y.history)) (Appends-trans h i j (history_text x.history) (history_text y.history) x.written y.written);
   }
 
@@ -81,8 +151,8 @@ module _ {D : Type 0} (disks : DiskOf D) where
   done_then_cut a b c first second h i j x y = record {
     history = x.history ++ y.history;
     acts = acts_join disks a b c x.history y.history x.acts y.acts;
-    follows = lines_join a.world.pages first second x.history y.history x.follows
-        (subst (λ (pages : ℕ). FollowsLines pages second y.history) (ap (λ w. w.pages) x.acts.is ∙ pages-after a.world x.history) y.follows);
+    follows = front_join a.world.pages first second x.history y.history x.follows
+        (subst (λ (pages : ℕ). FollowsFront pages second y.history) (same_pages a b x.history x.acts) y.follows);
     written = record {
       earlier = x.history ++ y.written.earlier;
       last = y.written.last;

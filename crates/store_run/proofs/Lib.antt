@@ -1,14 +1,10 @@
-pub mod Acting
-pub mod Closings
 pub mod Completes
-pub mod Counts
 pub mod Histories
 pub mod Making
-pub mod Moments
 pub mod Opened
-pub mod Pages
 pub mod Scripts
 pub mod Doing
+pub mod GeneratedStores
 pub mod WholeLines
 pub mod Asking
 pub mod Writings

@@ -10,7 +10,7 @@ use Rattle.script_lang.specs.Script.{lines_of}
 use Rattle.script_lang.specs.Words.{Without}
 use Rattle.store_model.specs.Worlds.{Event}
 use Rattle.cut_core.specs.Seen.{Seen}
-use Rattle.store_run.specs.Acts.{Acts}
+use Rattle.store_machine.specs.Acts.{Acts}
 use Rattle.store_run.specs.Following.{FollowsLines}
 use Rattle.store_run.specs.Lines.{AreWholeLines, LinesDone, FrontBad, FrontCut, FrontStopped, PieceDone, EndRan, ScriptRan}
 use Rattle.store_run.specs.Pieces.{PieceRead, Reads, whole_lines}

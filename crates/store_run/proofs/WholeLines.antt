@@ -9,7 +9,7 @@ use Rattle.script_lang.specs.declared.line.Line.TheVariants.{One, Collect, Note}
 use Rattle.script_lang.specs.declared.line.TheConstants.{LINE_LIMIT}
 use Rattle.script_lang.specs.Script.{lines_of, onto_first, Says, InScripts, IsBadAt, PartsLine}
 use Rattle.script_lang.specs.Words.{SplitsAt, Without}
-use Rattle.store_run.specs.Built.{IsBad}
+use Rattle.store_run.specs.BadLines.{IsBad}
 use Rattle.store_run.specs.Pieces.{whole_lines, onto_whole}
 use Rattle.store_run.specs.Lines.{AreWholeLines}
 
@@ -108,8 +108,4 @@ too_long_at : (line : List ℕ) → LINE_LIMIT < length line → IsBadAt InScrip
 too_long_at line long = record { long = λ over. refl; short = λ few. absurd (omega (arith, long, few)) }
 
 pub long_bad : (line : List ℕ) → LINE_LIMIT < length line → IsBad line (LINE_LIMIT + 1)
-long_bad line long = record {
-  outside = λ meaning means. too_long line long meaning means.0;
-  wrong_at = λ none. too_long_at line long;
-  unbuilt = λ meaning says. absurd (too_long line long meaning says);
-}
+long_bad line long = record { outside = λ meaning says. too_long line long meaning says; wrong_at = too_long_at line long }

@@ -1,9 +1,8 @@
-pub mod Acts
-pub mod Built
+pub mod BadLines
 pub mod Commands
 pub mod Complete
-pub mod Faults
 pub mod Following
+pub mod Generated
 pub mod Lines
 pub mod Made
 pub mod Pieces

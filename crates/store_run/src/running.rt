@@ -1,37 +1,24 @@
 //! Running a script, line by line, as it is read.
-ghost use Rattle.std.specs.Prelude.{◌≡◌, ◌≢◌, ◌+◌, ◌≤◌, ◌<◌, ◌-◌, ◌^◌, ◌++◌, ◌∷◌, [], Err, length, vec_len, vec_capacity};
-ghost use Rattle.store_model.specs.Texts.{reply_text};
+ghost use Rattle.std.specs.Prelude.{◌≡◌, ◌≢◌, ◌+◌, ◌≤◌, ◌<◌, ◌-◌, ◌^◌, [], Err, length, vec_len, vec_capacity};
 ghost use Rattle.script_lang.specs.Words.{Without};
 ghost use Rattle.disk_trait.specs.Causes.{Rose};
 ghost use Rattle.store_run.specs.Ran.{end_status};
 ghost use Rattle.store_run.specs.Lines.{LineRan, FrontRan, PieceRan, EndRan, ScriptRan};
 
-use crate::built::meaning_of;
-use crate::machine::Machine;
+use crate::calls::{REPLY_ROOM, run_call, run_collection};
+use crate::meaning::meaning_of;
 use crate::pieces::{SCRIPT_LIMIT, UNREAD_ROOM, Unread};
 use crate::status::Status;
-use crate::writing::write_all;
 use disk_trait::{Disk, Sink, Source};
-use object_graph::{Reply, Steps};
-use script_lang::{LINE_LIMIT, Line, next_line, print_reply};
+use object_graph::Steps;
+use script_lang::{LINE_LIMIT, Line, next_line};
 use std::sync::ledger::Ledger;
+use std::thread::Threads;
+use store_machine::Machine;
 
-/// Room for the line of a reply.
-pub const REPLY_ROOM: usize = 256;
-
-/// A reply's line, in place of what the buffer held.
-fn print_line(reply: Reply, buffer: &mut Vec<u8>)
-    requires { REPLY_ROOM ≤ vec_capacity buffer.old }
-    ensures text { buffer.new.items ≡ reply_text reply ++ 10 ∷ [] }
-    ensures room { REPLY_ROOM ≤ vec_capacity buffer.new }
-{
-    buffer.clear();
-    print_reply(reply, buffer);
-    let _ = buffer.push(b'\n');
-}
-
-/// Runs the line of this number, and writes its reply.
-fn run_line<D: Disk, K: Sink, L: Ledger>(
+/// Runs the line of this number, and writes its replies.
+fn run_line<T: Threads + Sync, D: Disk, K: Sink, L: Ledger>(
+    threads: &T,
     core: &mut Machine<D>,
     buffer: &mut Vec<u8>,
     line: &[u8],
@@ -45,31 +32,29 @@ fn run_line<D: Disk, K: Sink, L: Ledger>(
     ensures cause { result ≡ Err Status.WriteFault → Rose (K.faults sink.old) (K.faults sink.new) }
     ensures calm { result ≢ Err Status.WriteFault → K.faults sink.new ≡ K.faults sink.old }
 {
-    let call = match meaning_of(line) {
-        Err(column) => {
-            return Err(Status::BadLine {
-                line: number,
-                column,
-            });
-        }
+    match meaning_of(line) {
+        Err(column) => Err(Status::BadLine {
+            line: number,
+            column,
+        }),
         Ok(Line::Note) => {
             core.stands();
-            return Ok(());
+            Ok(())
         }
-        Ok(Line::Collect { .. }) => unreachable!(),
-        Ok(Line::One { call }) => call,
-    };
-    let reply = core.answer(call, steps);
-    print_line(reply, buffer);
-    match write_all(sink, buffer) {
-        Ok(()) => Ok(()),
-        Err(_) => Err(Status::WriteFault),
+        Ok(Line::One { call }) => match run_call(threads, core, buffer, call, sink, steps) {
+            Ok(_) => Ok(()),
+            Err(status) => Err(status),
+        },
+        Ok(Line::Collect { workers }) => {
+            run_collection(threads, core, buffer, workers, sink, steps)
+        }
     }
 }
 
 /// Runs the whole lines of some bytes in turn, up to the first that stops it. So many lines came
 /// before. Answers how many there are now, and how many bytes stand behind the last.
-fn run_lines<D: Disk, K: Sink, L: Ledger>(
+fn run_lines<T: Threads + Sync, D: Disk, K: Sink, L: Ledger>(
+    threads: &T,
     core: &mut Machine<D>,
     buffer: &mut Vec<u8>,
     bytes: &[u8],
@@ -91,7 +76,7 @@ fn run_lines<D: Disk, K: Sink, L: Ledger>(
         if line.len() == rest.len() {
             return Ok((number, rest.len()));
         }
-        match run_line(core, buffer, line, number + 1, sink, steps) {
+        match run_line(threads, core, buffer, line, number + 1, sink, steps) {
             Ok(()) => {}
             Err(status) => return Err(status),
         }
@@ -103,7 +88,8 @@ fn run_lines<D: Disk, K: Sink, L: Ledger>(
 
 /// Runs the whole lines of what is unread, and keeps what stands behind them. It stops where that
 /// is too long for a line already.
-fn run_piece<D: Disk, K: Sink, L: Ledger>(
+fn run_piece<T: Threads + Sync, D: Disk, K: Sink, L: Ledger>(
+    threads: &T,
     core: &mut Machine<D>,
     buffer: &mut Vec<u8>,
     unread: &mut Unread,
@@ -120,7 +106,7 @@ fn run_piece<D: Disk, K: Sink, L: Ledger>(
     ensures cause { result ≡ Err Status.WriteFault → Rose (K.faults sink.old) (K.faults sink.new) }
     ensures calm { result ≢ Err Status.WriteFault → K.faults sink.new ≡ K.faults sink.old }
 {
-    match run_lines(core, buffer, &unread.ahead, before, sink, steps) {
+    match run_lines(threads, core, buffer, &unread.ahead, before, sink, steps) {
         Err(status) => Err(status),
         Ok((number, left)) => {
             unread.keep_last(left);
@@ -146,7 +132,8 @@ fn ended<D: Disk>(core: &Machine<D>) -> Status
 }
 
 /// Runs a last line that lacks its end, if there is one.
-fn run_end<D: Disk, K: Sink, L: Ledger>(
+fn run_end<T: Threads + Sync, D: Disk, K: Sink, L: Ledger>(
+    threads: &T,
     core: &mut Machine<D>,
     buffer: &mut Vec<u8>,
     line: &[u8],
@@ -166,14 +153,15 @@ fn run_end<D: Disk, K: Sink, L: Ledger>(
         core.stands();
         return ended(core);
     }
-    match run_line(core, buffer, line, before + 1, sink, steps) {
+    match run_line(threads, core, buffer, line, before + 1, sink, steps) {
         Ok(()) => ended(core),
         Err(status) => status,
     }
 }
 
 /// Runs a script as it is read, up to its end or the first thing that stops it.
-pub fn run_script<D: Disk, S: Source, K: Sink, L: Ledger>(
+pub fn run_script<T: Threads + Sync, D: Disk, S: Source, K: Sink, L: Ledger>(
+    threads: &T,
     core: &mut Machine<D>,
     buffer: &mut Vec<u8>,
     unread: &mut Unread,
@@ -198,11 +186,11 @@ pub fn run_script<D: Disk, S: Source, K: Sink, L: Ledger>(
             Err(status) => return status,
             Ok(count) => {
                 if count == 0 {
-                    return run_end(core, buffer, &unread.ahead, number, sink, steps);
+                    return run_end(threads, core, buffer, &unread.ahead, number, sink, steps);
                 }
             }
         }
-        match run_piece(core, buffer, unread, number, sink, steps) {
+        match run_piece(threads, core, buffer, unread, number, sink, steps) {
             Ok(after) => number = after,
             Err(status) => return status,
         }

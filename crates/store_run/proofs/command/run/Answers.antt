@@ -13,7 +13,7 @@ returns-in-Ok-start-clause-ran g c =
       any_moment = c.in-Ok-start.ensures.any_moment;
       keeps = c.in-Ok-start.ensures.keeps;
       calm = c.in-Ok-start.ensures.calm;
-    }) c.run_store.ensures.ran
+    }) (rw c.of.ensures at c.run_store.ensures.ran)
 
 pub returns-in-Ok-start-clause-keeps : goal.returns-in-Ok-start-clause-keeps
 returns-in-Ok-start-clause-keeps g c =
@@ -27,4 +27,4 @@ returns-in-Ok-start-clause-keeps g c =
       any_moment = c.in-Ok-start.ensures.any_moment;
       keeps = c.in-Ok-start.ensures.keeps;
       calm = c.in-Ok-start.ensures.calm;
-    }) c.run_store.ensures.ran
+    }) (rw c.of.ensures at c.run_store.ensures.ran)

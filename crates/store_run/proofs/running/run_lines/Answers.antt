@@ -1,5 +1,5 @@
 use Rattle.std.proofs.Common.{◌≡◌, refl, ◌+◌, ◌∷◌, length, length-append, ap, ◌∙◌, arith}
-use Rattle.store_run.proofs.Acting.{acts_nothing}
+use Rattle.store_machine.proofs.Acting.{acts_nothing}
 use Rattle.store_run.proofs.WholeLines.{splits_there}
 use Rattle.store_run.proofs.Doing.{front_start, front_more, front_stops}
 use Rattle.store_run.proofs.running.run_lines.Goals as goal

@@ -1,6 +1,6 @@
 use Rattle.std.proofs.Common.{◌≡◌, ◌≤◌, ◌+◌, length}
 use Rattle.std.specs.Prelude.{vec_capacity}
-use Rattle.store_run.specs.declared.running.TheConstants.{REPLY_ROOM}
+use Rattle.store_run.specs.declared.calls.TheConstants.{REPLY_ROOM}
 use Rattle.store_run.specs.Lines.{FrontDone}
 use Rattle.store_run.proofs.running.run_lines.Given as goal
 

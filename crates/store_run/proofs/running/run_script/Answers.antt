@@ -1,6 +1,6 @@
 use Rattle.std.proofs.Common.{refl, ◌∙◌, subst, sym, ℕ, List, arith}
 use Rattle.store_run.specs.Lines.{EndRan}
-use Rattle.store_run.proofs.Acting.{acts_nothing}
+use Rattle.store_machine.proofs.Acting.{acts_nothing}
 use Rattle.store_run.proofs.Scripts.{Going, going_start, going_more, fed, read_stops, piece_stops, at_end, end_stops}
 use Rattle.store_run.proofs.running.run_script.Goals as goal
 

@@ -1,7 +1,7 @@
 use Rattle.std.proofs.Common.{◌≡◌, ◌≤◌, ◌-◌}
 use Rattle.std.specs.Prelude.{vec_capacity}
 use Rattle.store_run.specs.declared.pieces.TheConstants.{SCRIPT_LIMIT, UNREAD_ROOM}
-use Rattle.store_run.specs.declared.running.TheConstants.{REPLY_ROOM}
+use Rattle.store_run.specs.declared.calls.TheConstants.{REPLY_ROOM}
 use Rattle.store_run.proofs.Scripts.{Going}
 use Rattle.store_run.proofs.running.run_script.Given as goal
 

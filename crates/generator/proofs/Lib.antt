@@ -1,0 +1,10 @@
+pub mod Alone
+pub mod Collecting
+pub mod Rounds
+pub mod Joins
+pub mod Replying
+pub mod Transactions
+pub mod Collections
+pub mod Generating
+pub mod Calm
+pub mod Resting

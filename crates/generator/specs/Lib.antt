@@ -1,0 +1,5 @@
+pub mod Draws
+pub mod Rounds
+pub mod Summaries
+pub mod Between
+pub mod Making

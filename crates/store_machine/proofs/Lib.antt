@@ -1,0 +1,12 @@
+pub mod Acting
+pub mod Calling
+pub mod Closings
+pub mod Collecting
+pub mod Counts
+pub mod Keeping
+pub mod Moments
+pub mod Pages
+pub mod Places
+pub mod Promising
+pub mod Running
+pub mod Marked
