@@ -1,0 +1,12 @@
+use Rattle.std.proofs.Common.{sym, subst}
+use Rattle.store_desk.specs.States.{IsKept}
+use Rattle.store_desk.proofs.Kept.{kept_after}
+use Rattle.store_desk.proofs.state.DeskState.call.Goals as goal
+
+pub invariant_of-self : goal.invariant_of-self
+invariant_of-self g c =
+    subst (IsKept g.D.Disk c.self.inside.start.value c.happen-event.new.core) (sym c.push_reserved.ensures.items)
+    (kept_after g.D.Disk c.self.inside.start.value c.self.inside.core c.happen-event.new.core c.self.inside.chronicle.items c.happen-event.result c.self.invariant c.happen-event.ensures.happened)
+
+pub returns-clause-kept : goal.returns-clause-kept
+returns-clause-kept g c = invariant_of-self g c
