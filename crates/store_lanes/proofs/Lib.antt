@@ -1,0 +1,5 @@
+pub mod Crossing
+pub mod Going
+pub mod Making
+pub mod Owned
+pub mod Served

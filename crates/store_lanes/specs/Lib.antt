@@ -1,0 +1,4 @@
+pub mod LaneScripts
+pub mod Lanes
+pub mod Owned
+pub mod Served

@@ -1,0 +1,154 @@
+//! One lane of a script, and all of them beside each other.
+ghost use Rattle.std.specs.Prelude.{◌≡◌, ◌<◌, ◌&&◌, [], ◌∷◌};
+ghost use Rattle.script_lang.specs.Script.{lines_of};
+ghost use Rattle.store_lanes.specs.Lanes.{IsRun, LanesRan, LineRan, LineServed};
+ghost use Rattle.store_lanes.specs.Owned.{SameSeat};
+
+use crate::collect::collect;
+use crate::step::step;
+use disk_trait::{Disk, Gate};
+use object_graph::Memory;
+use script_lang::{LaneLine, Line, next_line, read_lane_line};
+use std::alloc::Global;
+use std::sync::Wait;
+use std::thread::{Threads, join};
+use store_desk::{Desk, DeskSeat};
+
+/// How many lanes there are.
+pub const LANES: u32 = 16;
+
+/// The calls of a line of a lane.
+fn serve<R: Threads + Wait + Sync, D: Disk>(
+    rt: &R,
+    alloc: Global,
+    desk: &Desk<D>,
+    seat: &mut DeskSeat<D>,
+    lane: u32,
+    line: Line,
+) -> Result<(), Memory>
+    requires own { seat.old.turn ≡ desk.now.turn }
+    requires start { seat.old.start ≡ desk.now.value.start ∷ [] }
+    requires run { IsRun line }
+    ensures served { LineServed D.Disk desk.now.value.start lane line seat.old seat.new result }
+    ensures same { SameSeat seat.old seat.new }
+{
+    let ran = match line {
+        Line::One { call } => step(rt, desk, seat, lane, call),
+        Line::Collect { workers } => collect(rt, alloc, desk, seat, lane, workers),
+        Line::Note => unreachable!(),
+    };
+    match ran {
+        Ok(_) => Ok(()),
+        Err(memory) => Err(memory),
+    }
+}
+
+/// Runs a line, where it is one of the lane, behind the gate. Answers whether it was.
+fn run_line<R: Threads + Wait + Sync, D: Disk, G: Gate>(
+    rt: &R,
+    alloc: Global,
+    desk: &Desk<D>,
+    seat: &mut DeskSeat<D>,
+    gate: &G,
+    bytes: &[u8],
+    lane: u32,
+    turn: u64,
+) -> Result<bool, Memory>
+    requires lane { 0 < lane }
+    requires own { seat.old.turn ≡ desk.now.turn }
+    requires start { seat.old.start ≡ desk.now.value.start ∷ [] }
+    ensures ran { LineRan D.Disk desk.now.value.start lane bytes.now seat.old seat.new result }
+    ensures same { SameSeat seat.old seat.new }
+{
+    let Ok(LaneLine { lane: of, line }) = read_lane_line(bytes) else {
+        return Ok(false);
+    };
+    if of != lane {
+        return Ok(false);
+    }
+    gate.pass(lane, turn);
+    match serve(rt, alloc, desk, seat, lane, line) {
+        Ok(()) => Ok(true),
+        Err(memory) => Err(memory),
+    }
+}
+
+/// Runs the lines of one lane in turn, up to the first that finds no memory. Answers whether it came
+/// to the end.
+fn run_lane<R: Threads + Wait + Sync, D: Disk, G: Gate>(
+    rt: &R,
+    alloc: Global,
+    desk: &Desk<D>,
+    mut seat: DeskSeat<D>,
+    gate: &G,
+    script: &[u8],
+    lane: u32,
+) -> (DeskSeat<D>, bool)
+    requires lane { 0 < lane }
+    requires own { seat.turn ≡ desk.now.turn }
+    requires start { seat.start ≡ desk.now.value.start ∷ [] }
+    requires fresh { seat.own ≡ [] }
+    ensures ran { LanesRan D.Disk desk.now.value.start (lines_of script.now) lane lane result.1 result.0 }
+    ensures same { SameSeat seat result.0 }
+{
+    let mut rest = script;
+    let mut turn: u64 = 1;
+    'lines: while let Some((line, after)) = next_line(rest) {
+        match run_line(rt, alloc, desk, &mut seat, gate, line, lane, turn) {
+            Ok(true) => turn = turn.saturating_add(1),
+            Ok(false) => {}
+            Err(_) => return (seat, false),
+        }
+        rest = after;
+    }
+    (seat, true)
+}
+
+/// Runs the lanes from the first to the last of these beside each other, each in a thread of its own
+/// (FORMATS.md, "Script lines"). A lane runs its lines in order, and passes the gate before each, with
+/// its number and the line's among its own, from 1 on. Where there is no room for a call it stops. The
+/// seat is cut in parts for them, so it has more parts than there are lanes. Answers whether all came
+/// to their ends.
+pub fn run_lanes<R: Threads + Wait + Sync, D: Disk + Send, G: Gate>(
+    rt: &R,
+    alloc: Global,
+    desk: &Desk<D>,
+    mut seat: DeskSeat<D>,
+    gate: &G,
+    script: &[u8],
+    last: u32,
+) -> (DeskSeat<D>, bool)
+    requires own { seat.turn ≡ desk.now.turn }
+    requires start { seat.start ≡ desk.now.value.start ∷ [] }
+    requires fresh { seat.own ≡ [] }
+    requires parts { last < seat.parts }
+    ensures ran { LanesRan D.Disk desk.now.value.start (lines_of script.now) 1 last result.1 result.0 }
+    ensures same { SameSeat seat result.0 }
+{
+    if last == 0 {
+        return (seat, true);
+    }
+    let Ok(other) = desk.split(&mut seat) else {
+        return (seat, false);
+    };
+    let fewer = last - 1;
+    let ((mut seat, earlier), (other, own)) = join(
+        rt,
+        move || -> (DeskSeat<D>, bool)
+            requires { (seat.turn ≡ desk.now.turn) × (seat.start ≡ desk.now.value.start ∷ []) × (seat.own ≡ []) × (fewer < seat.parts) }
+            ensures { LanesRan D.Disk desk.entry.now.value.start (lines_of script.entry.now) 1 fewer result.1 result.0 × SameSeat seat result.0 }
+        { run_lanes(rt, alloc, desk, seat, gate, script, fewer) },
+        move || -> (DeskSeat<D>, bool)
+            requires { (0 < last) × (other.turn ≡ desk.now.turn) × (other.start ≡ desk.now.value.start ∷ []) × (other.own ≡ []) }
+            ensures { LanesRan D.Disk desk.entry.now.value.start (lines_of script.entry.now) last last result.1 result.0 × SameSeat other result.0 }
+        { run_lane(rt, alloc, desk, other, gate, script, last) },
+    );
+    desk.join(&mut seat, other);
+    (seat, both(earlier, own))
+}
+
+fn both(first: bool, second: bool) -> bool
+    ensures { result ≡ (first && second) }
+{
+    first && second
+}

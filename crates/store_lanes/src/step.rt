@@ -1,0 +1,64 @@
+//! One call of a lane at the desk.
+ghost use Rattle.std.specs.Prelude.{◌≡◌, ◌<◌, ◌∷◌, [], true, not};
+ghost use Rattle.store_model.specs.Histories.{is_refused};
+ghost use Rattle.store_desk.specs.Appended.{IsTaken};
+ghost use Rattle.store_lanes.specs.Lanes.{PartRan};
+ghost use Rattle.store_lanes.specs.Owned.{SameSeat};
+ghost use Rattle.store_lanes.specs.Served.{is_plain};
+
+use disk_trait::Disk;
+use object_graph::{Call, Memory, Reply, Steps};
+use std::marker::Brand;
+use std::sync::Wait;
+use std::sync::ledger::{Blank, Ledger};
+use store_desk::{Desk, DeskSeat};
+
+/// One call of a lane, whose steps nobody counts. Answers whether it was done, not refused.
+pub fn step<W: Wait, D: Disk>(
+    rt: &W,
+    desk: &Desk<D>,
+    seat: &mut DeskSeat<D>,
+    lane: u32,
+    call: Call,
+) -> Result<bool, Memory>
+    requires own { seat.old.turn ≡ desk.now.turn }
+    requires start { seat.old.start ≡ desk.now.value.start ∷ [] }
+    requires taken { IsTaken call }
+    requires plain { is_plain call ≡ true }
+    ensures ran { PartRan D.Disk desk.now.value.start lane (call ∷ []) seat.old seat.new result }
+    ensures same { SameSeat seat.old seat.new }
+{
+    step_over::<W, D, Brand>(rt, desk, seat, lane, call, Blank::new(1))
+}
+
+fn step_over<W: Wait, D: Disk, L: Ledger>(
+    rt: &W,
+    desk: &Desk<D>,
+    seat: &mut DeskSeat<D>,
+    lane: u32,
+    call: Call,
+    blank: Blank,
+) -> Result<bool, Memory>
+    requires name { blank.name ≡ L.name }
+    requires parts { blank.parts ≡ L.parts }
+    requires some { 0 < blank.parts }
+    requires own { seat.old.turn ≡ desk.now.turn }
+    requires start { seat.old.start ≡ desk.now.value.start ∷ [] }
+    requires taken { IsTaken call }
+    requires plain { is_plain call ≡ true }
+    ensures ran { PartRan D.Disk desk.now.value.start lane (call ∷ []) seat.old seat.new result }
+    ensures same { SameSeat seat.old seat.new }
+{
+    let mut steps: Steps<L> = Steps::new(blank);
+    match desk.call(rt, seat, lane, call, &mut steps) {
+        Ok((reply, _)) => Ok(is_done(&reply)),
+        Err(memory) => Err(memory),
+    }
+}
+
+/// Whether the call wasn't refused.
+pub fn is_done(reply: &Reply) -> bool
+    ensures { result ≡ not (is_refused reply.now) }
+{
+    !matches!(*reply, Reply::Refused { .. })
+}
