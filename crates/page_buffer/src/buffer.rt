@@ -6,7 +6,7 @@ ghost use Rattle.page_image.specs.Pages.{slot_at, with_slot, IsFull, IsNextName}
 ghost use Rattle.page_buffer.specs.Frames.{clean_frame, frame_at, with_frame, written, settled, reverted, freed_frame, IsFrame, AreFrames};
 
 use crate::frame::{Frame, clean, free_in};
-use object_graph::{Memory, Name, SlotSet, Steps};
+use object_graph::{Memory, Name, OBJECT_FIELDS, SlotSet, Steps};
 use page_image::{Page, PageFull};
 use std::alloc::Global;
 use std::marker::Model;
@@ -54,7 +54,15 @@ impl Buffer {
         self.frames.len() as u32
     }
 
-    /// The frame of a page. No other call reads a page.
+    /// How many references each object of a page has, which no write changes: it's no step.
+    pub fn fields_of(&self, page: u32) -> usize
+        requires { page < length self.now }
+        ensures { result ≡ OBJECT_FIELDS }
+    {
+        self.frames[page as usize].before.fields()
+    }
+
+    /// The frame of a page. No other call reads what a page holds.
     pub fn frame<L: Ledger>(&self, page: u32, steps: &mut Steps<L>) -> &Frame
         requires { page < length self.now }
         ensures value { result.now ≡ frame_at self.now page }

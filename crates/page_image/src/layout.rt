@@ -5,16 +5,16 @@ ghost use Rattle.page_image.specs.Fields.{slot_start, slot_piece};
 
 use object_graph::{OBJECT_FIELDS, SLOTS_PER_PAGE};
 
-/// The bytes before the slots.
-pub(crate) const HEADER_SIZE: usize = 64;
+/// The bytes of a page before its slots (FORMATS.md, "Pages").
+pub const HEADER_SIZE: usize = 64;
 
 /// The bytes of a slot before its number, and before its references.
 pub(crate) const NUMBER: usize = 8;
 
-pub(crate) const REFERENCES: usize = 16;
+pub const REFERENCES: usize = 16;
 
 /// The bytes of a reference.
-pub(crate) const REFERENCE_SIZE: usize = 8;
+pub const REFERENCE_SIZE: usize = 8;
 
 /// The slots of a page.
 pub(crate) fn slots(_bytes: &[u8; 1024]) -> u16

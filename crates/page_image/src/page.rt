@@ -8,12 +8,12 @@ ghost use Rattle.page_image.specs.Images.{page_said};
 ghost use Rattle.page_image.specs.Spelling.{page_bytes};
 ghost use Rattle.page_image.specs.Pages.{PageParts, IsPage, empty_page, slot_at, with_slot, object_at, object_of, has_name, slot_freed, IsFull, IsFirstWithRoom, IsNextName};
 
-use crate::layout::{piece, slots};
+use crate::layout::{fields, piece, slots};
 use crate::numbers::u32_at;
 use crate::read::{generation, has_room, in_use, object_in};
 use crate::write::{put_bare, put_header, put_number, put_reference};
 use crate::wrong::first_wrong_field;
-use object_graph::{MOST_PAGES, Name, Object, SLOTS_PER_PAGE, SlotSet};
+use object_graph::{MOST_PAGES, Name, OBJECT_FIELDS, Object, SLOTS_PER_PAGE, SlotSet};
 use std::marker::Model;
 
 /// The image of a page, kept as its spelling. Contracts see its number and its slots. It is a plain
@@ -98,6 +98,13 @@ impl Page {
         ensures bound { result < MOST_PAGES }
     {
         u32_at(&self.bytes, 4)
+    }
+
+    /// How many references each object of the page has.
+    pub fn fields(&self) -> usize
+        ensures { result ≡ OBJECT_FIELDS }
+    {
+        fields(&self.bytes)
     }
 
     /// The stored generation of a slot: that of the last object committed there, or 0.

@@ -10,9 +10,9 @@ ghost use Rattle.image_model.specs.Opening.{page_slots};
 ghost use Rattle.image_model.specs.Stores.{reference_place};
 ghost use Rattle.recovery.specs.Marks.{IsMarkedMore, IsUpTo, IsNotedAt, AreNoted, IsLeastDangling};
 
-use crate::sizes::{REFERENCE_SIZE, REFERENCES_START, SLOT_SIZE, SLOTS_START, home_of};
+use crate::sizes::{SLOT_SIZE, home_of};
 use object_graph::{Memory, Name, SlotSet};
-use page_image::Page;
+use page_image::{HEADER_SIZE, Page, REFERENCE_SIZE, REFERENCES};
 use std::alloc::Global;
 
 /// Whether an object of this name is in use.
@@ -34,8 +34,8 @@ fn place_of(name: &Name, field: usize) -> u64
     requires { field < 2 ^ 32 }
     ensures { result ≡ reference_place name.now field }
 {
-    let slot = home_of(name.page()) + SLOTS_START + SLOT_SIZE * u64::from(name.slot());
-    slot + REFERENCES_START + REFERENCE_SIZE * field as u64
+    let slot = HEADER_SIZE as u64 + SLOT_SIZE as u64 * u64::from(name.slot());
+    home_of(name.page()) + slot + REFERENCES as u64 + REFERENCE_SIZE as u64 * field as u64
 }
 
 /// The least of the places so far and this one.

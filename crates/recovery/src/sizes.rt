@@ -3,6 +3,7 @@ ghost use Rattle.std.specs.Prelude.{◌≡◌};
 ghost use Rattle.redo_journal.specs.Homes.{home_start, store_size};
 
 use object_graph::OBJECT_FIELDS;
+use page_image::{HEADER_SIZE, REFERENCE_SIZE, REFERENCES};
 use redo_journal::{AREA_SIZE, HOMES_START, PAGE_SIZE};
 
 /// So many homes are read and written at once.
@@ -14,19 +15,11 @@ pub(crate) const PIECE_SIZE: usize = PIECE_PAGES * PAGE_SIZE;
 /// An area has so many pieces of these bytes.
 pub(crate) const AREA_PIECES: u64 = AREA_SIZE / PIECE_SIZE as u64;
 
-/// Where the first slot begins in a page.
-pub(crate) const SLOTS_START: u64 = 64;
-
-/// Where the first reference begins in a slot, and the length of a reference.
-pub(crate) const REFERENCES_START: u64 = 16;
-
-pub(crate) const REFERENCE_SIZE: u64 = 8;
-
 /// The length of a slot, which ends with its references.
-pub(crate) const SLOT_SIZE: u64 = REFERENCES_START + REFERENCE_SIZE * OBJECT_FIELDS as u64;
+pub(crate) const SLOT_SIZE: usize = REFERENCES + REFERENCE_SIZE * OBJECT_FIELDS;
 
 /// Where the slot of the root begins.
-pub(crate) const ROOT_PLACE: u64 = HOMES_START + SLOTS_START;
+pub(crate) const ROOT_PLACE: u64 = HOMES_START + HEADER_SIZE as u64;
 
 /// Where the home of a page begins.
 pub(crate) fn home_of(page: u32) -> u64

@@ -8,7 +8,7 @@ ghost use Rattle.transactions.specs.Standing.{IsReadyForSome};
 ghost use Rattle.transactions.specs.Calls.{StepsWell};
 
 use crate::transactions::Transactions;
-use object_graph::{Name, OBJECT_FIELDS, Object, Refusal, Steps};
+use object_graph::{Name, Object, Refusal, Steps};
 use page_buffer::Buffer;
 use page_locks::Busy;
 use std::sync::ledger::Ledger;
@@ -44,10 +44,10 @@ impl Transactions {
         if !entry.knows(name) {
             return Err(Refusal::Stranger);
         }
-        if field as usize >= OBJECT_FIELDS {
+        let page = name.page();
+        if field as usize >= self.buffer.fields_of(page) {
             return Err(Refusal::BadField);
         }
-        let page = name.page();
         if let Err(Busy { holder }) = self.locks.check_shared(txn, page) {
             return Err(Refusal::Busy { holder });
         }

@@ -6,7 +6,7 @@ ghost use Rattle.transactions.specs.Standing.{IsReadyForSome};
 ghost use Rattle.transactions.specs.Calls.{StepsWell};
 
 use crate::transactions::Transactions;
-use object_graph::{Name, OBJECT_FIELDS, Refusal, Steps};
+use object_graph::{Name, Refusal, Steps};
 use page_locks::Busy;
 use std::sync::ledger::Ledger;
 
@@ -32,10 +32,10 @@ impl Transactions {
         if !entry.knows(name) || !entry.knows_target(&target) {
             return Err(Refusal::Stranger);
         }
-        if field as usize >= OBJECT_FIELDS {
+        let page = name.page();
+        if field as usize >= self.buffer.fields_of(page) {
             return Err(Refusal::BadField);
         }
-        let page = name.page();
         if let Err(Busy { holder }) = self.locks.check_exclusive(txn, page) {
             return Err(Refusal::Busy { holder });
         }

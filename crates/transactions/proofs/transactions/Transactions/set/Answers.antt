@@ -1,4 +1,4 @@
-use Rattle.std.proofs.Common.{true, sym, arith, ◌∙◌, refl}
+use Rattle.std.proofs.Common.{ℕ, ◌<◌, true, sym, arith, subst, ◌∙◌, refl}
 use Rattle.object_graph.specs.declared.calls.Call.TheVariants.{Set}
 use Rattle.object_graph.specs.declared.calls.Refusal.TheVariants.{Busy, TooWide}
 use Rattle.store_model.specs.Worlds.{link}
@@ -6,6 +6,12 @@ use Rattle.transactions.proofs.Opened.{opened, open_admitted}
 use Rattle.transactions.proofs.Refusals.{refused}
 use Rattle.transactions.proofs.Writes.{page_in_frames, page_in_locks, known_slot, set_known, write_busy, write_wide, write_stands}
 use Rattle.transactions.proofs.transactions.Transactions.set.Goals as goal
+
+pub fields_of-requires : goal.fields_of-requires
+fields_of-requires g c =
+    page_in_frames _ c.requires.0 c.args.txn c.in-Some.entry.now c.args.name c.page-page.result
+    (opened c.args.self.now _ c.requires.0 c.args.txn c.in-Some.entry.now (sym c.self.view_is) (sym c.in-Some.ensures) c.requires.1)
+    (sym c.if-not-knows.ensures) c.page-page.ensures.value
 
 pub check_exclusive-requires-clause-admitted : goal.check_exclusive-requires-clause-admitted
 check_exclusive-requires-clause-admitted g c =
@@ -23,7 +29,7 @@ returns-in-Err-clause-steps g c = λ w r.
     let o = opened c.args.self.now _ w c.args.txn c.in-Some.entry.now (sym c.self.view_is) (sym c.in-Some.ensures) r in
     record {
       allowed = refused w (Set c.args.txn c.args.name c.args.field c.args.target) (Busy c.in-Err.field-0.holder)
-          (set_known _ w c.args.txn c.in-Some.entry.now c.args.name c.args.field c.args.target o (sym c.if-not-knows.ensures) (sym c.knows_target.ensures ∙ c.if-not-knows_target.false) c.if-field-ge-OBJECT_FIELDS.false
+          (set_known _ w c.args.txn c.in-Some.entry.now c.args.name c.args.field c.args.target o (sym c.if-not-knows.ensures) (sym c.knows_target.ensures ∙ c.if-not-knows_target.false) (subst (λ (n : ℕ). c.args.field < n) c.fields_of.ensures c.if-field-fields_of.false)
           ∙ write_busy _ w c.args.txn c.in-Some.entry.now c.args.name c.page-page.result c.in-Err.field-0.holder o c.page-page.ensures.value c.in-Err.ensures.busy);
       stands = r.stands;
     }
@@ -33,7 +39,7 @@ returns-then-is_too_wide-clause-steps g c = λ w r.
     let o = opened c.args.self.now _ w c.args.txn c.in-Some.entry.now (sym c.self.view_is) (sym c.in-Some.ensures) r in
     record {
       allowed = refused w (Set c.args.txn c.args.name c.args.field c.args.target) TooWide
-          (set_known _ w c.args.txn c.in-Some.entry.now c.args.name c.args.field c.args.target o (sym c.if-not-knows.ensures) (sym c.knows_target.ensures ∙ c.if-not-knows_target.false) c.if-field-ge-OBJECT_FIELDS.false
+          (set_known _ w c.args.txn c.in-Some.entry.now c.args.name c.args.field c.args.target o (sym c.if-not-knows.ensures) (sym c.knows_target.ensures ∙ c.if-not-knows_target.false) (subst (λ (n : ℕ). c.args.field < n) c.fields_of.ensures c.if-field-fields_of.false)
           ∙ write_wide _ w c.args.txn c.in-Some.entry.now c.args.name c.page-page.result _ o c.page-page.ensures.value c.in_default-check_exclusive.ensures.free (sym c.if-is_too_wide.ensures));
       stands = r.stands;
     }
@@ -72,7 +78,7 @@ write_ref-requires-clause-field g c =
     let n = (known_slot _ c.requires.0 true c.args.txn c.in-Some.entry.now c.args.name c.page-page.result c.slot.result
     (opened c.args.self.now _ c.requires.0 c.args.txn c.in-Some.entry.now (sym c.self.view_is) (sym c.in-Some.ensures) c.requires.1)
     (sym c.if-not-knows.ensures) c.page-page.ensures.value c.slot.ensures.value c.in-Ok.ensures.free).fields in
-    let low = c.if-field-ge-OBJECT_FIELDS.false in
+    let low = (subst (λ (n : ℕ). c.args.field < n) c.fields_of.ensures c.if-field-fields_of.false) in
     omega arith
 
 pub returns-clause-steps : goal.returns-clause-steps
@@ -80,7 +86,7 @@ returns-clause-steps g c = λ w r.
     let o = opened c.args.self.now _ w c.args.txn c.in-Some.entry.now (sym c.self.view_is) (sym c.in-Some.ensures) r in
     record {
       allowed = (
-        set_known _ w c.args.txn c.in-Some.entry.now c.args.name c.args.field c.args.target o (sym c.if-not-knows.ensures) (sym c.knows_target.ensures ∙ c.if-not-knows_target.false) c.if-field-ge-OBJECT_FIELDS.false
+        set_known _ w c.args.txn c.in-Some.entry.now c.args.name c.args.field c.args.target o (sym c.if-not-knows.ensures) (sym c.knows_target.ensures ∙ c.if-not-knows_target.false) (subst (λ (n : ℕ). c.args.field < n) c.fields_of.ensures c.if-field-fields_of.false)
             ∙ write_wide _ w c.args.txn c.in-Some.entry.now c.args.name c.page-page.result _ o c.page-page.ensures.value c.in_default-check_exclusive.ensures.free (sym c.if-is_too_wide.ensures),
         refl,
       );
