@@ -11,8 +11,8 @@ mod read;
 mod write;
 mod wrong;
 
-pub use layout::{HEADER_SIZE, REFERENCE_SIZE, REFERENCES};
 pub use laws::{each_page_has_one_spelling, each_page_is_read_from_its_spelling};
+pub use layout::{HEADER_SIZE, REFERENCE_SIZE, REFERENCES};
 pub use page::{BadPage, Page, PageFull};
 pub use page_copy::PageCopy;
 
