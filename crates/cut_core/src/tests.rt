@@ -1,12 +1,13 @@
-//! Worked scripts on a store in memory, and each device call of a commit and of a checkpoint failing
+//! Limits of a store in memory, and each device call of a commit and of a checkpoint failing
 //! before a crash.
 ghost use Rattle.std.specs.Prelude.{◌≡◌, ◌<◌, true};
 ghost use Rattle.cut_core.specs.Calls.{IsBuilt};
 
 use crate::Core;
 use disk_trait::{Disk, MemDisk};
-use object_graph::{Call, Memory, Name, Phase, ROOT, Refusal, Reply, Steps};
+use object_graph::{Call, MOST_COUNTED, Memory, Name, ROOT, Refusal, Reply, Steps};
 use recovery::make;
+use redo_journal::HEAD_SIZE;
 use std::alloc::Global;
 use std::marker::Brand;
 use std::process::Abort;
@@ -18,19 +19,6 @@ const TWO_PAGES: usize = 527_360;
 
 fn begin(txn: u32) -> Call {
     Call::Begin { txn }
-}
-
-fn get(txn: u32, name: Name, field: u32) -> Call {
-    Call::Get { txn, name, field }
-}
-
-fn set(txn: u32, name: Name, field: u32, target: Option<Name>) -> Call {
-    Call::Set {
-        txn,
-        name,
-        field,
-        target,
-    }
 }
 
 fn put(txn: u32, name: Name, value: u64) -> Call {
@@ -59,10 +47,6 @@ fn made(name: Name) -> Reply {
 
 fn num(value: u64) -> Reply {
     Reply::Num { value }
-}
-
-fn refers(target: Option<Name>) -> Reply {
-    Reply::Ref { target }
 }
 
 fn committed(commits: u64) -> Reply {
@@ -200,75 +184,6 @@ fn failing(alloc: Global, number: u64) -> Result<Core<MemDisk>, Memory> {
     fresh(alloc, 2, fail)
 }
 
-/// A worked script.
-#[derive(Drop)]
-struct Worked<'a> {
-    name: &'static str,
-    script: &'a [(Call, Reply)],
-}
-
-#[test]
-fn worked_scripts_are_answered(rt: HostRuntime) -> Result<(), Fail> {
-    let alloc = rt.alloc();
-    let object = first_in(1, 0);
-    let first_transaction = [
-        (begin(1), Reply::Done),
-        (new(1, 1), made(object)),
-        (set(1, ROOT, 0, Some(object)), Reply::Done),
-        (put(1, object, 7), Reply::Done),
-        (commit(1), committed(1)),
-        (Call::Reopen, reopened(1)),
-        (begin(2), Reply::Done),
-        (get(2, ROOT, 0), refers(Some(object))),
-        (number(2, object), num(7)),
-        (abort(2), Reply::Done),
-    ];
-    let lock_conflict = [
-        (begin(1), Reply::Done),
-        (begin(2), Reply::Done),
-        (number(1, ROOT), num(0)),
-        (number(2, ROOT), num(0)),
-        (put(2, ROOT, 5), refused(Refusal::Busy { holder: 1 })),
-        (abort(1), Reply::Done),
-        (put(2, ROOT, 5), Reply::Done),
-        (commit(2), committed(1)),
-    ];
-    let refusals = [
-        (begin(1), Reply::Done),
-        (new(1, 1), made(object)),
-        (commit(1), committed(1)),
-        (begin(2), Reply::Done),
-        (number(2, object), refused(Refusal::Stranger)),
-        (get(2, ROOT, 4), refused(Refusal::BadField)),
-        (new(2, 2), refused(Refusal::NoPage)),
-        (number(9, ROOT), refused(Refusal::NotOpen)),
-    ];
-    let examples = [
-        Worked {
-            name: "first transaction",
-            script: &first_transaction,
-        },
-        Worked {
-            name: "lock conflict",
-            script: &lock_conflict,
-        },
-        Worked {
-            name: "refusals",
-            script: &refusals,
-        },
-    ];
-    for example in examples.iter() {
-        let mut core = fresh(alloc, 2, Vec::new(alloc))?;
-        assert_eq!(rt;
-            differs(&mut core, example.script),
-            None,
-            "{}",
-            example.name
-        );
-    }
-    Ok(())
-}
-
 #[test]
 fn a_page_has_twenty_slots(rt: HostRuntime) -> Result<(), Fail> {
     let mut core = fresh(rt.alloc(), 2, Vec::new(rt.alloc()))?;
@@ -340,6 +255,24 @@ fn a_fault_of_the_first_write_breaks_the_store(rt: HostRuntime) -> Result<(), Fa
     assert_eq!(rt; differs(&mut core, &script), None);
     assert_eq!(rt; core.broken(), None);
     assert_eq!(rt; core.last_cut(), 0);
+    Ok(())
+}
+
+#[test]
+fn a_spent_count_refuses_commits_alone(rt: HostRuntime) -> Result<(), Fail> {
+    let mut disk = fresh(rt.alloc(), 1, Vec::new(rt.alloc()))?.into_disk();
+    // The first area of the journal begins with its base.
+    disk.write_at(HEAD_SIZE, &MOST_COUNTED.to_be_bytes())?;
+    let mut core = again(rt.alloc(), disk)?;
+    let spent = Refusal::Spent {
+        count: MOST_COUNTED,
+    };
+    let script = [
+        (begin(1), Reply::Done),
+        (commit(1), refused(spent)),
+        (Call::OpenCut, cut(1)),
+    ];
+    assert_eq!(rt; differs(&mut core, &script), None);
     Ok(())
 }
 
@@ -458,36 +391,6 @@ fn a_crash_leaves_a_commit_or_none(rt: HostRuntime) -> Result<(), Fail> {
 fn the_254th_commit_makes_a_checkpoint(rt: HostRuntime) -> Result<(), Fail> {
     let calls = check_crashes(&rt, rt.alloc(), 253)?;
     assert!(rt; calls > 4);
-    Ok(())
-}
-
-#[test]
-fn a_cut_is_opened_copied_closed_and_dropped(rt: HostRuntime) -> Result<(), Fail> {
-    let mut core = fresh(rt.alloc(), 4, Vec::new(rt.alloc()))?;
-    let closed = Refusal::WrongPhase { now: Phase::Closed };
-    let script = [
-        (copy(0), refused(Refusal::NoCut)),
-        (Call::OpenCut, cut(1)),
-        (Call::OpenCut, refused(Refusal::CutThere { number: 1 })),
-        (copy(9), refused(Refusal::NoPage)),
-        (copy(0), Reply::Done),
-        (copy(0), refused(Refusal::AlreadyCopied { page: 0 })),
-        (copy(1), Reply::Done),
-        (copy(2), Reply::Done),
-        (Call::Close, refused(Refusal::Uncopied { page: 3 })),
-        (copy(3), Reply::Done),
-        (Call::Close, Reply::Done),
-        (Call::Close, refused(closed)),
-        (Call::EndCut, refused(closed)),
-        (Call::DropCut, Reply::Done),
-        (Call::DropCut, refused(Refusal::NoCut)),
-        (Call::OpenCut, cut(2)),
-        (Call::Reopen, reopened(0)),
-        (Call::DropCut, refused(Refusal::NoCut)),
-        (Call::OpenCut, cut(3)),
-    ];
-    assert_eq!(rt; differs(&mut core, &script), None);
-    assert_eq!(rt; core.last_cut(), 3);
     Ok(())
 }
 
