@@ -10,7 +10,7 @@ use Rattle.store_model.specs.Histories.{collection, after}
 use Rattle.cut_core.specs.Seen.{Seen}
 use Rattle.store_machine.specs.Acts.{Acts}
 use Rattle.generator.specs.Draws.{next_draw, drawn}
-use Rattle.generator.specs.Rounds.{store_pages, transaction_of, collected_after, AreAnswered, IsRound, AreRounds, StopsRound, StopsCollection, entries_of, joined}
+use Rattle.generator.specs.Rounds.{store_pages, store_slots, transaction_of, collected_after, AreAnswered, IsRound, AreRounds, StopsRound, StopsCollection, entries_of, joined}
 use Rattle.generator.specs.Summaries.{Counts, full_in, freed_in, ended_in, summary_text, summary}
 use Rattle.generator.specs.Between.{IsResting}
 use Rattle.generator.specs.Making.{Made, HasTransacted, HasCollected, StopsAmong, Stops, IsFew, HasMadeRound, HasRun, HasStopped, HasGenerated, is_full_for, why_of}
@@ -78,7 +78,7 @@ module _ {D : Type 0} (disks : DiskOf D) where
       }
 
   pub round_collected : (a b c : Seen D) (x i : ℕ) (full : Bool) (number freed : ℕ) (before now : Tally) → (i + 1) % 32 ≡ 0 → HasTransacted disks a b x i full number
-      → HasCollected disks b c freed → freed ≤ 640 → before.rounds ≡ i → IsFew before i
+      → HasCollected disks b c freed → freed ≤ store_slots → before.rounds ≡ i → IsFew before i
       → now.rounds ≡ before.rounds + 1 → now.commits ≡ number → now.full ≡ before.full + one_if full → now.freed ≡ before.freed + freed → now.ended ≡ before.ended + 1
       → HasMadeRound disks a c x i before now
   round_collected a b c x i full number freed before now due t h most at few rounds commits fulls frees ended =

@@ -19,7 +19,7 @@ use Rattle.store_model.specs.Histories.{collection, is_refused}
 use Rattle.cut_core.specs.Seen.{Seen}
 use Rattle.store_machine.specs.Acts.{Acts, IsLegalRun}
 use Rattle.generator.specs.Draws.{page_drawn}
-use Rattle.generator.specs.Rounds.{store_pages, entry, made_on, writes_of, transaction_of, AreAnswered, IsRound, StopsRound, StopsCollection, FollowsGenerator, StopsGenerator, entries_of}
+use Rattle.generator.specs.Rounds.{store_pages, store_slots, entry, made_on, writes_of, transaction_of, AreAnswered, IsRound, StopsRound, StopsCollection, FollowsGenerator, StopsGenerator, entries_of}
 use Rattle.generator.specs.Summaries.{Counts, summary_text, summary}
 use Rattle.generator.specs.Between.{IsResting, IsAlone, IsCollecting, learnt}
 use Rattle.generator.specs.declared.asking.Stop.{Stop}
@@ -54,7 +54,7 @@ commits_told reply = 0
 -- a run of so many rounds counts no more than this
 pub record IsFew (tally : Tally) (rounds : ℕ) : Type 0 where
   pub full : tally.full ≤ rounds
-  pub freed : tally.freed ≤ 640 * rounds
+  pub freed : tally.freed ≤ store_slots * rounds
   pub ended : tally.ended ≤ rounds
 
 -- the world after New: as before, where the page was full

@@ -1,8 +1,9 @@
 -- Which histories are runs of the generator: a list of rounds, in which each call depends on the replies before it.
-use Rattle.std.specs.Prelude.{◌≡◌, ℕ, ◌+◌, ◌%◌, ◌<◌, ◌==◌, false, Option, Some, None, List, [], ◌∷◌, ◌++◌, map, length, flat_map, if◌then◌else◌}
+use Rattle.std.specs.Prelude.{◌≡◌, ℕ, ◌+◌, ◌*◌, ◌%◌, ◌<◌, ◌==◌, false, Option, Some, None, List, [], ◌∷◌, ◌++◌, map, length, flat_map, if◌then◌else◌}
 use Rattle.std.specs.List.{AllByRecursion}
 use Rattle.object_graph.specs.NameParts.{NameParts}
 use Rattle.object_graph.specs.Names.{root_name}
+use Rattle.object_graph.specs.declared.limits.TheConstants.{MOST_SLOTS}
 use Rattle.object_graph.specs.declared.calls.Call.{Call}
 use Rattle.object_graph.specs.declared.calls.Call.TheVariants.{Begin, Get, Set, Put, New, Commit}
 use Rattle.object_graph.specs.declared.calls.Reply.{Reply}
@@ -13,14 +14,20 @@ use Rattle.object_graph.specs.declared.calls.Entry.{Entry}
 use Rattle.store_model.specs.Worlds.{Event}
 use Rattle.store_model.specs.Histories.{collection, is_refused}
 use Rattle.generator.specs.Draws.{drawn, page_drawn, field_drawn, keep_drawn}
+use Rattle.generator.specs.declared.collection.TheConstants.{PAGES}
+use Rattle.generator.specs.declared.running.TheConstants.{MOST_ROUNDS}
 
 -- the pages of the store
 abbrev pub store_pages : ℕ
-store_pages = 16
+store_pages = PAGES
+
+-- all slots of its pages
+abbrev pub store_slots : ℕ
+store_slots = store_pages * MOST_SLOTS
 
 -- a run has so many rounds at most
 abbrev pub most_rounds : ℕ
-most_rounds = 65536
+most_rounds = MOST_ROUNDS
 
 -- a call of the one caller, with its reply
 abbrev pub entry : Call → Reply → Entry

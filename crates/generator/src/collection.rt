@@ -2,7 +2,7 @@
 ghost use Rattle.std.specs.Prelude.{◌≡◌, ◌≤◌, ◌<◌, length, IfOk};
 ghost use Rattle.object_graph.specs.Slots.{slots_in};
 ghost use Rattle.object_graph.specs.declared.calls.Phase.TheVariants.{Copying, Sweeping};
-ghost use Rattle.generator.specs.Rounds.{store_pages};
+ghost use Rattle.generator.specs.Rounds.{store_pages, store_slots};
 ghost use Rattle.generator.specs.Summaries.{slots_freed};
 ghost use Rattle.generator.specs.Between.{IsCollecting, IsResting};
 ghost use Rattle.generator.specs.Making.{Collects, HasCopied, Swept, SweptPage};
