@@ -81,6 +81,16 @@ making_refused (Make-TooShort len need) size content G N n bad short =
 making_refused Make-Memory size content G N n bad short = inr n
 making_refused Make-DiskFault size content G N n bad short = inr n
 
+-- a disk that is too short isn't one that failed
+pub making_short : (fault : MakeFault) (len need : ℕ) → make_status fault ≡ TooShort len need → fault ≡ Make-DiskFault → ⊥
+making_short fault len need is e = let z : DiskFault ≡ TooShort len need = sym (ap make_status e) ∙ is in absurd cc
+
+pub opening_not_short : (fault : OpenFault) (len need : ℕ) → open_status fault ≡ TooShort len need → ⊥
+opening_not_short Open-DiskFault len need is = absurd cc
+opening_not_short Open-NotAStore len need is = absurd cc
+opening_not_short (Open-Damaged at) len need is = absurd cc
+opening_not_short Open-Memory len need is = absurd cc
+
 -- a store that was just made, and isn't fresh as it is opened
 pub another_store : (content now : Option (List ℕ)) (w : World) → is_some now ≡ is_some content → IfSome now (λ file. w ≡ opened file)
     → IfSome now (λ file. opened file ≡ fresh_world store_pages) → (w.pages ≡ store_pages → w.commits ≡ 0 → ⊥) → content ≡ None
@@ -133,6 +143,9 @@ module _ {D : Type 0} (disks : DiskOf D) where
     told = r.acts.keeps.told ∙ (second.told ∙ first.told);
     later = let a = first.later in let b = second.later in let c = r.acts.keeps.later in omega arith;
   })
+
+  pub rounds_not_short : (status : Status) (from count : ℕ) (core : Seen D) (new : D) (h i : Option (List ℕ)) (len need : ℕ) → RoundsMade disks status from count core new h i → status ≡ TooShort len need → ⊥
+  rounds_not_short status from count core new h i len need r is = subst (λ (s : Status). FollowsRounds s from count r.history) is r.follows
 
   -- ---- by how the run ended
 

@@ -70,6 +70,9 @@ returns-in-Some-Run-clause-generated g c from count gen = absurd (run_no_gen (ma
 pub returns-in-Some-Run-clause-gen_unread : goal.returns-in-Some-Run-clause-gen_unread
 returns-in-Some-Run-clause-gen_unread g c from count gen = absurd (run_no_gen (map string_bytes c.args.words.now) c.command_of.result from count (c.in-Some-Run.is ∙ ap Some c.in-Some-Run.field-0-is) c.command_of.ensures.only gen)
 
+pub returns-in-Some-Run-clause-gen_untouched : goal.returns-in-Some-Run-clause-gen_untouched
+returns-in-Some-Run-clause-gen_untouched g c from count len need gen is = absurd (run_no_gen (map string_bytes c.args.words.now) c.command_of.result from count (c.in-Some-Run.is ∙ ap Some c.in-Some-Run.field-0-is) c.command_of.ensures.only gen)
+
 pub returns-in-Some-Run-clause-calm_gen : goal.returns-in-Some-Run-clause-calm_gen
 returns-in-Some-Run-clause-calm_gen g c from count gen done = absurd (run_no_gen (map string_bytes c.args.words.now) c.command_of.result from count (c.in-Some-Run.is ∙ ap Some c.in-Some-Run.field-0-is) c.command_of.ensures.only gen)
 
@@ -78,6 +81,9 @@ returns-in-Some-Run-clause-complete_gen g c from count file gen told long nw nf 
 
 pub returns-in-Some-Make-clause-generated : goal.returns-in-Some-Make-clause-generated
 returns-in-Some-Make-clause-generated g c from count gen = absurd (make_no_gen (map string_bytes c.args.words.now) c.command_of.result from count c.in-Some-Make.pages (c.in-Some-Make.is ∙ ap Some c.in-Some-Make.field-0-is) c.command_of.ensures.only gen)
+
+pub returns-in-Some-Make-clause-gen_untouched : goal.returns-in-Some-Make-clause-gen_untouched
+returns-in-Some-Make-clause-gen_untouched g c from count len need gen is = absurd (make_no_gen (map string_bytes c.args.words.now) c.command_of.result from count c.in-Some-Make.pages (c.in-Some-Make.is ∙ ap Some c.in-Some-Make.field-0-is) c.command_of.ensures.only gen)
 
 pub returns-in-Some-Make-clause-calm_gen : goal.returns-in-Some-Make-clause-calm_gen
 returns-in-Some-Make-clause-calm_gen g c from count gen done = absurd (make_no_gen (map string_bytes c.args.words.now) c.command_of.result from count c.in-Some-Make.pages (c.in-Some-Make.is ∙ ap Some c.in-Some-Make.field-0-is) c.command_of.ensures.only gen)

@@ -7,7 +7,7 @@ use Rattle.image_model.specs.Stands.{opened}
 use Rattle.store_model.specs.Worlds.{fresh_world}
 use Rattle.store_run.specs.declared.status.Status.{Status}
 use Rattle.store_run.specs.Generated.{Generated, GeneratedBy}
-use Rattle.store_run.proofs.GeneratedStores.{making_refused, opening_refused, rounds_generated}
+use Rattle.store_run.proofs.GeneratedStores.{making_refused, making_short, opening_refused, opening_not_short, rounds_generated, rounds_not_short}
 use Rattle.store_run.proofs.generating.generate_store.Goals as goal
 
 pub returns-in-Err-clause-generated : goal.returns-in-Err-clause-generated
@@ -36,3 +36,14 @@ returns-clause-generated g c =
     c.make.ensures.keeps.told c.in_default.ensures.store
     (λ e. c.in-Err-start.ensures.none c.in-Err-start.disk (ap (λ f. Err (c.in-Err-start.disk, f)) e))
     (λ at e. c.in-Err-start.ensures.bad c.in-Err-start.disk at (ap (λ f. Err (c.in-Err-start.disk, f)) e)))
+
+pub returns-in-Err-clause-untouched : goal.returns-in-Err-clause-untouched
+returns-in-Err-clause-untouched g c len need is = c.in-Err.ensures.untouched (making_short c.in-Err.fault len need (sym c.unmade.ensures ∙ is))
+
+pub returns-in-Ok-start-clause-untouched : goal.returns-in-Ok-start-clause-untouched
+returns-in-Ok-start-clause-untouched g c len need is =
+    absurd (rounds_not_short g.D.Disk c.make_rounds.result.0 c.args.from c.args.count c.in-Ok-start.core c.make_rounds.result.1
+    (g.K.Sink.held c.args.sink.now) (g.K.Sink.held c.make_rounds.new.sink) len need c.make_rounds.ensures.made is)
+
+pub returns-clause-untouched : goal.returns-clause-untouched
+returns-clause-untouched g c len need is = absurd (opening_not_short c.in-Err-start.fault len need (sym c.refused.ensures ∙ is))
