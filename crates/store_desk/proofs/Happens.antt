@@ -28,8 +28,8 @@ use Rattle.cut_core.specs.Reopening.{Happens, IsNoteOf, IsOpenedAnew, IsOfReopen
 use Rattle.cut_core.specs.Seen.{Seen, StandsForEither}
 use Rattle.store_machine.proofs.Counts.{ascend_once, breaks, broken_not_none}
 use Rattle.store_machine.proofs.Moments.{if_some_map}
-use Rattle.store_desk.proofs.Pages.{next_pages}
-use Rattle.store_desk.proofs.Marks.{mark_never_fails, refused_other}
+use Rattle.store_machine.proofs.Marked.{mark_never_fails, refused_other}
+use Rattle.store_machine.proofs.Pages.{pages-after_reply}
 use Rattle.store_desk.specs.Chronicles.{IsKnown, KeepsCut}
 use Rattle.store_desk.specs.Events.{entry, note_in, told, Keeps, plain_note}
 use Rattle.store_desk.specs.Happenings.{Happened, FindsFreed, reopening}
@@ -47,7 +47,7 @@ happening lane call reply note = record { entry = entry lane call reply; note = 
 
 -- no event changes the number of pages
 same_pages : (w v : World) (e : model.Event) → v ≡ next w e → v.pages ≡ w.pages
-same_pages w v e is = ap (λ (x : World). x.pages) is ∙ next_pages w e
+same_pages w v e is = ap (λ (x : World). x.pages) is ∙ pages-after_reply w e.entry.call e.note e.entry.reply
 
 -- ---- notes
 

@@ -25,7 +25,7 @@ pages-after_answer : (w : World) (call : Call) (note : Note) (reply : Reply) →
 pages-after_answer w (New t page) note reply = pages-with_new w t (new_name w t page)
 pages-after_answer w _ note reply = refl
 
-pages-after_reply : (w : World) (call : Call) (note : Note) (reply : Reply) → (after_reply w call note reply).pages ≡ w.pages
+pub pages-after_reply : (w : World) (call : Call) (note : Note) (reply : Reply) → (after_reply w call note reply).pages ≡ w.pages
 pages-after_reply w call note (Refused why) = pages-after_refusal w call note why
 pages-after_reply w call note reply = pages-after_answer w call note reply
 

@@ -6,7 +6,7 @@ use Rattle.store_model.specs.Replies.{Allows}
 use Rattle.store_model.specs.Worlds.{marks}
 use Rattle.cut_core.specs.Given.{mark_event}
 use Rattle.store_desk.proofs.Happens.{happened_marks}
-use Rattle.store_desk.proofs.Marks.{mark_never_fails, refused_same, refused_other}
+use Rattle.store_machine.proofs.Marked.{mark_never_fails, refused_same, refused_other}
 use Rattle.store_desk.proofs.happening.refuse_marks.Goals.{in-Ok, in-Err}
 use Rattle.store_desk.proofs.happening.refuse_marks.Goals as goal
 
