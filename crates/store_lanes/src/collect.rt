@@ -9,7 +9,7 @@ ghost use Rattle.store_lanes.specs.Lanes.{PartRan, ClosingRan, MarksRan};
 ghost use Rattle.store_lanes.specs.Owned.{SameSeat};
 ghost use Rattle.store_lanes.specs.Served.{call_on, is_plain};
 
-use crate::step::{is_done, step};
+use crate::step::step;
 use cut_builder::{ClosedCut, MarkedCut};
 use disk_trait::{Disk, OpenGate};
 use mark_pool::mark;
@@ -18,6 +18,7 @@ use std::alloc::Global;
 use std::sync::Wait;
 use std::thread::Threads;
 use store_desk::{Desk, DeskSeat};
+use store_model::is_refused;
 
 /// What is done with each page.
 #[derive(Clone, Copy, Debug, PartialEq, Eq)]
@@ -205,7 +206,7 @@ fn mark_and_give<R: Threads + Wait + Sync, D: Disk>(
 {
     let marked = marks_of(rt, alloc, cut, workers);
     match desk.give_marks(rt, seat, lane, workers, marked) {
-        Ok((reply, _)) => Ok(is_done(&reply)),
+        Ok((reply, _)) => Ok(!is_refused(&reply)),
         Err((_marked, memory)) => Err(memory),
     }
 }

@@ -129,7 +129,7 @@ pub fn run_lanes<R: Threads + Wait + Sync, D: Disk + Send, G: Gate>(
         return (seat, true);
     }
     let Ok(other) = desk.split(&mut seat) else {
-        return (seat, false);
+        unreachable!()
     };
     let fewer = last - 1;
     let ((mut seat, earlier), (other, own)) = join(

@@ -1,17 +1,17 @@
 //! One call of a lane at the desk.
-ghost use Rattle.std.specs.Prelude.{◌≡◌, ◌<◌, ◌∷◌, [], true, not};
-ghost use Rattle.store_model.specs.Histories.{is_refused};
+ghost use Rattle.std.specs.Prelude.{◌≡◌, ◌<◌, ◌∷◌, [], true};
 ghost use Rattle.store_desk.specs.Appended.{IsTaken};
 ghost use Rattle.store_lanes.specs.Lanes.{PartRan};
 ghost use Rattle.store_lanes.specs.Owned.{SameSeat};
 ghost use Rattle.store_lanes.specs.Served.{is_plain};
 
 use disk_trait::Disk;
-use object_graph::{Call, Memory, Reply, Steps};
+use object_graph::{Call, Memory, Steps};
 use std::marker::Brand;
 use std::sync::Wait;
 use std::sync::ledger::{Blank, Ledger};
 use store_desk::{Desk, DeskSeat};
+use store_model::is_refused;
 
 /// One call of a lane, whose steps nobody counts. Answers whether it was done, not refused.
 pub fn step<W: Wait, D: Disk>(
@@ -51,14 +51,7 @@ fn step_over<W: Wait, D: Disk, L: Ledger>(
 {
     let mut steps: Steps<L> = Steps::new(blank);
     match desk.call(rt, seat, lane, call, &mut steps) {
-        Ok((reply, _)) => Ok(is_done(&reply)),
+        Ok((reply, _)) => Ok(!is_refused(&reply)),
         Err(memory) => Err(memory),
     }
-}
-
-/// Whether the call wasn't refused.
-pub fn is_done(reply: &Reply) -> bool
-    ensures { result ≡ not (is_refused reply.now) }
-{
-    !matches!(*reply, Reply::Refused { .. })
 }
