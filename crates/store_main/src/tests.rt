@@ -9,6 +9,8 @@ use std::test::Fail;
 use std::thread::Threads;
 use store_run::{Status, top};
 
+mod replies;
+
 // Runs a command over the file, and compares what it wrote.
 fn run_over<R: AllocGlobal + Threads + Sync + Abort>(
     rt: &R,
