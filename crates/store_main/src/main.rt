@@ -10,13 +10,16 @@ mod disks;
 mod tests;
 
 use console::{Answering, Asking, Held};
-use disk_trait::{Disk, StdSink, StdSource};
+use disk_trait::{Disk, OpenGate, Sink, Source, StdSink, StdSource};
 use disks::{fresh_store, open_file};
+use lanes_run::top_lanes;
+use std::alloc::Global;
 use std::cell::RefCell;
 use std::fs::File;
 use std::io::ErrorKind;
 use std::process::ExitCode;
 use std::rt::{Env, Files};
+use std::sync::Wait;
 use std::thread::Threads;
 use std::{env, io};
 use store_run::{Status, top};
@@ -71,7 +74,7 @@ fn command_line<R: Env + AllocGlobal>(rt: &R) -> Result<(String, Vec<String>), S
 }
 
 /// Runs the command on the disk of that name.
-fn run_command<R: AllocGlobal + Input + Print + Threads + Sync + Files<File = File>>(
+fn run_command<R: AllocGlobal + Input + Print + Threads + Wait + Sync + Files<File = File>>(
     rt: &R,
     name: &str,
     words: &[String],
@@ -82,7 +85,7 @@ fn run_command<R: AllocGlobal + Input + Print + Threads + Sync + Files<File = Fi
             Err(status) => status,
         });
     }
-    match open_file(rt, name, is_make(words)) {
+    match open_file(rt, name, begins_with(words, "make")) {
         Ok(disk) => Ok(run_on(rt, words, disk)),
         Err(_) => Err(NoFile),
     }
@@ -95,17 +98,17 @@ fn is_memory(name: &str) -> bool
     name == "-"
 }
 
-/// Whether the first word is `make`.
-fn is_make(words: &[String]) -> bool {
+/// Whether this is the first word.
+fn begins_with(words: &[String], first: &str) -> bool {
     match words.first() {
-        Some(word) => word.as_str() == "make",
+        Some(word) => word.as_str() == first,
         None => false,
     }
 }
 
 /// Runs the command between standard input and standard output. Replies go out in large pieces, and
 /// always before more input is read.
-fn run_on<R: AllocGlobal + Input + Print + Threads + Sync, D: Disk + Drop>(
+fn run_on<R: AllocGlobal + Input + Print + Threads + Wait + Sync, D: Disk + Drop + Send>(
     rt: &R,
     words: &[String],
     disk: D,
@@ -120,12 +123,28 @@ fn run_on<R: AllocGlobal + Input + Print + Threads + Sync, D: Disk + Drop>(
         held: &held,
     });
     let mut sink = StdSink::on(Answering { held: &held });
-    let (status, _disk) = top(rt, alloc, words, &mut source, &mut sink, disk);
+    let (status, _disk) = run_words(rt, alloc, words, &mut source, &mut sink, disk);
     drop(source);
     drop(sink);
     let mut held = held.into_inner();
     held.send();
     ended(status, held.has_failed())
+}
+
+// Runs the command; lanes wait for nobody at their gate.
+fn run_words<R: Threads + Wait + Sync, D: Disk + Send, S: Source, K: Sink>(
+    rt: &R,
+    alloc: Global,
+    words: &[String],
+    source: &mut S,
+    sink: &mut K,
+    disk: D,
+) -> (Status, D) {
+    if begins_with(words, "lanes") {
+        top_lanes(rt, alloc, words, source, sink, disk, &OpenGate)
+    } else {
+        top(rt, alloc, words, source, sink, disk)
+    }
 }
 
 // How the command ends where the last replies couldn't be written out.

@@ -33,7 +33,7 @@ taken_now script (Some rest) taken c = record { rest = rest; left_is = refl; who
 pub taken_of : (before left : Option (List ℕ)) (script taken : List ℕ) → before ≡ Some script → Consumes before left taken → TakenOf script left taken
 taken_of before left script taken is c = taken_now script left taken (subst (λ (b : Option (List ℕ)). Consumes b left taken) is c)
 
-nothing_left : (script taken : List ℕ) (left : Option (List ℕ)) (t : TakenOf script left taken) → IsAtEnd left → t.rest ≡ []
+pub nothing_left : (script taken : List ℕ) (left : Option (List ℕ)) (t : TakenOf script left taken) → IsAtEnd left → t.rest ≡ []
 nothing_left script taken left t end = subst (λ (o : Option (List ℕ)). IsAtEnd o) t.left_is end
 
 -- ---- lines of a front
@@ -81,16 +81,16 @@ whole_step false b (w ∷ wholes) (l ∷ lines) both more none ih e =
     ap (λ x. x ∷ wholes) (byte_tail b w l (head_same (b ∷ w) (b ∷ l) wholes lines e)) ∙ ap (λ x. l ∷ x) (tail_same (b ∷ w) (b ∷ l) wholes lines e) in
     ap (onto_first b) (ih same)
 
-whole_front : (front more : List ℕ) → whole_lines front ≡ lines_of front → lines_of (front ++ more) ≡ lines_of front ++ lines_of more
+pub whole_front : (front more : List ℕ) → whole_lines front ≡ lines_of front → lines_of (front ++ more) ≡ lines_of front ++ lines_of more
 whole_front [] more e = refl
 whole_front (b ∷ front) more e =
     whole_step (nat_eq b 10) b (whole_lines front) (lines_of front) (lines_of (front ++ more)) (lines_of more) (none_both front) (whole_front front more) e
 
 -- the last line of a front may go on behind it
-record GoesOn (lines good : List (List ℕ)) (bad : List ℕ) : Type 0 where
-  more : List ℕ
-  later : List (List ℕ)
-  is : lines ≡ good ++ (bad ++ more) ∷ later
+pub record GoesOn (lines good : List (List ℕ)) (bad : List ℕ) : Type 0 where
+  pub more : List ℕ
+  pub later : List (List ℕ)
+  pub is : lines ≡ good ++ (bad ++ more) ∷ later
 
 last_byte : (b : ℕ) (bad : List ℕ) (lines : List (List ℕ)) → bad ≡ b ∷ [] → GoesOn (onto_first b lines) [] bad
 last_byte b bad [] e = record { more = []; later = []; is = ap (λ x. x ∷ []) (sym (append-nil bad ∙ e)) }
@@ -113,7 +113,7 @@ goes_step false b (l ∷ lines) both rest (g ∷ good) bad none ih e =
     let r = ih (l ∷ good) bad (ap (λ x. l ∷ x) (tail_same (b ∷ l) g lines (good ++ bad ∷ []) e)) in
     record { more = r.more; later = r.later; is = ap (onto_first b) r.is ∙ ap (λ x. x ∷ (good ++ (bad ++ r.more) ∷ r.later)) (head_same (b ∷ l) g lines (good ++ bad ∷ []) e) }
 
-goes_on : (front more : List ℕ) (good : List (List ℕ)) (bad : List ℕ) → lines_of front ≡ good ++ bad ∷ [] → GoesOn (lines_of (front ++ more)) good bad
+pub goes_on : (front more : List ℕ) (good : List (List ℕ)) (bad : List ℕ) → lines_of front ≡ good ++ bad ∷ [] → GoesOn (lines_of (front ++ more)) good bad
 goes_on [] more good bad e = absurd (not_none good bad e)
 goes_on (b ∷ front) more good bad e =
     goes_step (nat_eq b 10) b (lines_of front) (lines_of (front ++ more)) (lines_of more) good bad (none_first front more) (λ g d x. goes_on front more g d x) e
@@ -129,10 +129,10 @@ meant_at (g ∷ good) bad later (m ∷ meanings) s = meant_at good bad later mea
 says : (script : List ℕ) (good : List (List ℕ)) (bad : List ℕ) (later : List (List ℕ)) → IsScript script → lines_of script ≡ good ++ bad ∷ later → (m : Line) × Says bad m
 says script good bad later s e = meant_at good bad later s.meanings (subst (λ (lines : List (List ℕ)). SayInTurn lines s.meanings) e s.say)
 
-whole_text : (script taken front rest behind : List ℕ) → script ≡ taken ++ behind → taken ≡ front ++ rest → script ≡ front ++ (rest ++ behind)
+pub whole_text : (script taken front rest behind : List ℕ) → script ≡ taken ++ behind → taken ≡ front ++ rest → script ≡ front ++ (rest ++ behind)
 whole_text script taken front rest behind s t = s ∙ (ap (λ x. x ++ behind) t ∙ append_assoc front rest behind)
 
-no_more : (front rest behind : List ℕ) → rest ≡ [] → behind ≡ [] → front ++ (rest ++ behind) ≡ front
+pub no_more : (front rest behind : List ℕ) → rest ≡ [] → behind ≡ [] → front ++ (rest ++ behind) ≡ front
 no_more front rest behind r b = ap (λ x. front ++ (x ++ behind)) r ∙ (ap (λ x. front ++ x) b ∙ append-nil front)
 
 no_bad_line : (pages : ℕ) (script taken : List ℕ) (left : Option (List ℕ)) (history : List Event) (line column : ℕ) → IsScript script → TakenOf script left taken
@@ -166,7 +166,7 @@ not_too_long script taken left s t len =
 abbrev pub HasNoFault : List ℕ → Type 0
 HasNoFault file = (fault : Fault) → HasFault file fault → ⊥
 
-told_no_fault : (content : Option (List ℕ)) (file : List ℕ) (P : List ℕ → Type 0) → content ≡ Some file → (P file → ⊥) → IfSome content P → ⊥
+pub told_no_fault : (content : Option (List ℕ)) (file : List ℕ) (P : List ℕ → Type 0) → content ≡ Some file → (P file → ⊥) → IfSome content P → ⊥
 told_no_fault content file P is never h = never (subst (λ (o : Option (List ℕ)). IfSome o P) is h)
 
 module _ {D : Type 0} (disks : DiskOf D) where

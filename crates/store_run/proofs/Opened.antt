@@ -37,12 +37,12 @@ pub not_broken : (w : World) → IsJustOpened w → w.broken ≡ None
 not_broken w just = ap (λ (v : World). v.broken) just.2
 
 -- what the disk told is a store, which opens to this world
-opens_to : (content : Option (List ℕ)) (w : World) → IfSome content (λ file. w ≡ opened file) → IfSome content (λ file. (store : StoreParts) × IsStore file store) → IfSome content (λ file. OpensTo file w)
+pub opens_to : (content : Option (List ℕ)) (w : World) → IfSome content (λ file. w ≡ opened file) → IfSome content (λ file. (store : StoreParts) × IsStore file store) → IfSome content (λ file. OpensTo file w)
 opens_to None w is store = tt
 opens_to (Some file) w is store = record { store = store; is = is }
 
 -- where the disk told something as the call began, it tells as it ends
-leaves_both : {A B C P Q R : Type 0} (o : Option A) (m : Option B) (n : Option C) → is_some m ≡ is_some o → is_some n ≡ is_some m → (is_some m ≡ true → P → Q → R) → IfSome m (λ _. P) → IfSome n (λ _. Q) → IfSome o (λ _. R)
+pub leaves_both : {A B C P Q R : Type 0} (o : Option A) (m : Option B) (n : Option C) → is_some m ≡ is_some o → is_some n ≡ is_some m → (is_some m ≡ true → P → Q → R) → IfSome m (λ _. P) → IfSome n (λ _. Q) → IfSome o (λ _. R)
 leaves_both None m n e f g p q = tt
 leaves_both (Some a) None n e f g p q = absurd cc
 leaves_both (Some a) (Some b) None e f g p q = absurd cc
@@ -68,7 +68,7 @@ module _ {D : Type 0} (disks : DiskOf D) where
   after_run : (core new : Seen D) (history : List Event) → Acts disks core new history → is_some (disks.content core.disk) ≡ true → new.world ≡ after core.world history
   after_run core new history acts is = (told_run (is_some (disks.content core.disk)) core.world new.world history is acts.runs).last_is
 
-  leaves_history : (disk : D) (core new : Seen D) (history : List Event) → Opening disk core → new.world ≡ after core.world history
+  pub leaves_history : (disk : D) (core new : Seen D) (history : List Event) → Opening disk core → new.world ≡ after core.world history
       → LeavesOnly disks core.disk new.disk (StandsForFront core.world history) → ((file : List ℕ) → disks.may_leave new.disk file → StandsForWorld file new.world)
       → LeavesHistory disks disk new.disk core.world history
   leaves_history disk core new history o is moments now = record {

@@ -94,7 +94,7 @@ fn read_end<S: Source>(source: &mut S) -> Result<usize, Status>
 }
 
 /// Adds bytes for which there is room.
-fn append(bytes: &mut Vec<u8>, more: &[u8])
+pub fn append(bytes: &mut Vec<u8>, more: &[u8])
     requires { vec_len bytes.old + length more.now ≤ vec_capacity bytes.old }
     ensures items { bytes.new.items ≡ bytes.old.items ++ more.now }
     ensures room { vec_capacity bytes.old ≤ vec_capacity bytes.new }
