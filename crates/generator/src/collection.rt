@@ -29,7 +29,7 @@ pub fn collect<T: Threads + Sync, D: Disk, L: Ledger>(
     requires resting { IsResting machine.old.world }
     requires cuts { machine.old.world.last_cut < machine.old.world.commits }
     ensures collected { Collects ⟦<D as Disk>⟧ machine.old machine.new result }
-    ensures few { IfOk result (λ freed. freed ≤ 640) }
+    ensures few { IfOk result (λ freed. freed ≤ store_slots) }
 {
     if let Err(stop) = ask(machine, threads, Call::OpenCut, steps) {
         return Err(stop);
@@ -71,7 +71,7 @@ fn sweep_pages<T: Threads + Sync, D: Disk, L: Ledger>(
 ) -> Result<u64, Stop>
     requires { IsCollecting Sweeping store_pages 0 machine.old.world }
     ensures swept { Swept ⟦<D as Disk>⟧ machine.old machine.new result }
-    ensures few { IfOk result (λ freed. freed ≤ 640) }
+    ensures few { IfOk result (λ freed. freed ≤ store_slots) }
 {
     machine.stands();
     let mut freed = 0;
