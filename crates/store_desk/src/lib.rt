@@ -11,3 +11,6 @@ pub use desk::{Desk, DeskSeat};
 pub use event::{Event, Note};
 pub use names::FreedNames;
 pub use state::DeskState;
+
+#[cfg(test)]
+mod tests;
