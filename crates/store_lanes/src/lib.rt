@@ -6,3 +6,6 @@ mod lane;
 mod step;
 
 pub use lane::{LANES, run_lanes};
+
+#[cfg(test)]
+mod tests;
