@@ -1,13 +1,11 @@
 -- A script of lanes in the grammar is run to its end where nothing fails.
 use Rattle.std.proofs.Common.{◌≡◌, refl, sym, ap, ◌∙◌, subst, ℕ, ◌+◌, ◌<◌, inl, inr, ⊎_elim, List, [], ◌∷◌, ◌++◌, length, Option, Some, append_assoc, append-nil, arith, length-append}
 use Rattle.std.specs.Prelude.{IfSome}
-use Rattle.std.specs.Io.KnownBytes.{IsAtEnd}
 use Rattle.disk_trait.specs.declared.disk.Disk.{Ghosts as DiskOf}
 use Rattle.disk_trait.specs.Causes.{Rose}
 use Rattle.image_model.specs.Opening.{not_a_store, damaged}
 use Rattle.image_model.specs.Stands.{opened}
 use Rattle.image_model.specs.Stores.{HasFault}
-use Rattle.script_lang.specs.declared.line.Line.{Line}
 use Rattle.script_lang.specs.declared.line.LaneLine.{LaneLine}
 use Rattle.script_lang.specs.declared.line.TheConstants.{LINE_LIMIT}
 use Rattle.script_lang.specs.Script.{lines_of, SaysInLane}

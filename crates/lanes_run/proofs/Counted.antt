@@ -9,7 +9,6 @@ use Rattle.script_lang.specs.declared.line.TheConstants.{LINE_LIMIT}
 use Rattle.script_lang.specs.Script.{lines_of, SaysInLane, InLanes, IsBadAt}
 use Rattle.script_lang.specs.Words.{SplitsAt, Without}
 use Rattle.store_lanes.specs.LaneScripts.{SayInLanes}
-use Rattle.store_run.specs.Lines.{AreWholeLines}
 use Rattle.store_run.specs.declared.status.Status.{Status}
 use Rattle.store_run.specs.declared.status.Status.TheVariants.{BadLine}
 use Rattle.store_run.proofs.WholeLines.{one_whole, none_whole, whole_join, lines_are, whole_are, unended_line}

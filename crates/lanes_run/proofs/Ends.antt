@@ -1,11 +1,11 @@
 -- How lanes end.
-use Rattle.std.proofs.Common.{◌≡◌, refl, sym, ap, ◌∙◌, subst, ℕ, zero, suc, ◌+◌, ◌-◌, ◌<◌, ◌≤◌, inl, inr, Bool, true, false, List, [], ◌∷◌, ◌++◌, length, Option, Some, None, zero-add, arith}
+use Rattle.std.proofs.Common.{◌≡◌, refl, sym, ap, ◌∙◌, subst, ℕ, suc, ◌-◌, ◌<◌, ◌≤◌, inl, inr, Bool, true, false, List, [], ◌∷◌, length, Option, Some, None, zero-add, arith}
 use Rattle.std.proofs.lemmas.List.{length-map}
 use Rattle.std.proofs.lemmas.Option.{slice_get_within}
 use Rattle.std.proofs.KnownBytes.{Appends-nil}
 use Rattle.std.specs.Prelude.{slice_get, is_some, IsTrue}
 use Rattle.std.specs.List.{AllByRecursion}
-use Rattle.std.specs.Io.KnownBytes.{Appends, Consumes}
+use Rattle.std.specs.Io.KnownBytes.{Appends}
 use Rattle.disk_trait.specs.declared.disk.Disk.{Ghosts as DiskOf}
 use Rattle.script_lang.specs.declared.line.LaneLine.{LaneLine}
 use Rattle.script_lang.specs.Script.{lines_of}
@@ -32,9 +32,9 @@ use Rattle.store_run.specs.Writing.{AppendsFront}
 use Rattle.store_run.specs.declared.status.Status.{Status}
 use Rattle.store_run.specs.declared.status.Status.TheVariants.{Done, BadLine, TooLong, ReadFault, WriteFault, DiskFault, Memory}
 use Rattle.lanes_run.specs.Ended.{ended_by, is_whole, IsLanesEnd, LanesEnded, StoreLanes}
-use Rattle.lanes_run.specs.Judged.{AreRight, RefusedBy}
+use Rattle.lanes_run.specs.Judged.{AreRight}
 use Rattle.lanes_run.specs.Judging.{ScriptRight, ScriptRefused}
-use Rattle.lanes_run.specs.RanLanes.{LaneFollows, LanesFollow, DidBy, WrittenBy}
+use Rattle.lanes_run.specs.RanLanes.{LanesFollow, DidBy, WrittenBy}
 
 never_true : {A : Type 0} → IsTrue false → A
 never_true {A} t = absurd (let clash : false ≡ true = t in let n : ⊥ = cc in n)
@@ -82,10 +82,10 @@ module _ {D : Type 0} (disks : DiskOf D) where
       let owns : (p : ℕ) → p < length (history seat.seen) → has p seat.own ≡ true = (λ p lt.
       let some = times_places p 0 (length seat.seen - 0) (omega arith) (omega (arith, lt, same)) in let e = owned p in has_times p seat.own (omega (arith, some, e))) in
       record {
-        of_lanes = all_at (λ (e : model.Event). (1 ≤ e.entry.lane) × (e.entry.lane ≤ LANES)) (history seat.seen) (λ p e at.
+        of_lanes = all_at (λ (e : model.Event). (1 ≤ e.entry.lane) × (e.entry.lane ≤ 16)) (history seat.seen) (λ p e at.
             (let m = moment_at w (history seat.seen) p e at in
             let k = ran.owns.lanes p m.0 (owns p (slice_get_within (history seat.seen) p e at)) m.2 in
-            subst (λ (d : model.Event). (1 ≤ d.entry.lane) × (d.entry.lane ≤ LANES)) m.1 k));
+            subst (λ (d : model.Event). (1 ≤ d.entry.lane) × (d.entry.lane ≤ 16)) m.1 k));
         each = λ lane low high. (let went = ran.each lane low high said says in record {
           past = went.past;
           future = went.future;

@@ -1,6 +1,6 @@
 -- Lanes on a store that was just opened.
-use Rattle.std.proofs.Common.{◌≡◌, refl, sym, ap, ◌∙◌, subst, ℕ, inl, inr, Bool, true, List, Option, arith}
-use Rattle.std.specs.Prelude.{is_some, IsTrue}
+use Rattle.std.proofs.Common.{◌≡◌, sym, ap, ◌∙◌, subst, ℕ, inl, List, Option, arith}
+use Rattle.std.specs.Prelude.{is_some}
 use Rattle.disk_trait.specs.declared.disk.Disk.{Ghosts as DiskOf}
 use Rattle.disk_trait.specs.Causes.{Rose}
 use Rattle.disk_trait.specs.DiskFacts.{KeepsDisk}

@@ -11,7 +11,6 @@ use Rattle.script_lang.specs.Words.{Without}
 use Rattle.store_lanes.specs.LaneScripts.{SayInLanes}
 use Rattle.store_run.specs.Lines.{AreWholeLines}
 use Rattle.store_run.specs.Pieces.{PieceRead, Reads, whole_lines}
-use Rattle.store_run.specs.Ran.{EndsLine}
 use Rattle.store_run.specs.declared.pieces.TheConstants.{SCRIPT_LIMIT, PIECE_LIMIT}
 use Rattle.store_run.specs.declared.pieces.Unread.{Unread}
 use Rattle.store_run.specs.declared.status.Status.{Status}

@@ -14,7 +14,6 @@ use Rattle.store_machine.specs.Faults.{NoneFailed}
 use Rattle.store_machine.specs.Promises.{IsSafe, IsCollected}
 use Rattle.store_desk.specs.Chronicles.{IsKnown}
 use Rattle.store_lanes.specs.Served.{FollowsTo}
-use Rattle.store_lanes.specs.declared.lane.TheConstants.{LANES}
 use Rattle.store_run.specs.Ran.{EndsBy, OpensTo, LeavesHistory}
 use Rattle.store_run.specs.Writing.{AppendsFront}
 use Rattle.store_run.specs.declared.status.Status.{Status}
@@ -32,10 +31,10 @@ pub record LaneFollows (known : Type 0) (w : World) (lane : ℕ) (whole : Bool) 
   pub ended : IsTrue whole → future ≡ []
   pub follows : known → FollowsTo w.pages lane past future (moments_of_lane lane (moments w history))
 
--- each event is one of a lane, and each lane's events follow its lines
+-- each event is one of a lane, 1 to 16, and each lane's events follow its lines
 pub record LanesFollow (known : Type 0) (w : World) (whole : Bool) (said : List LaneLine) (history : List Event) : Type 0 where
-  pub of_lanes : AllByRecursion (λ (e : Event). (1 ≤ e.entry.lane) × (e.entry.lane ≤ LANES)) history
-  pub each : (lane : ℕ) → 1 ≤ lane → lane ≤ LANES → LaneFollows known w lane whole said history
+  pub of_lanes : AllByRecursion (λ (e : Event). (1 ≤ e.entry.lane) × (e.entry.lane ≤ 16)) history
+  pub each : (lane : ℕ) → 1 ≤ lane → lane ≤ 16 → LaneFollows known w lane whole said history
 
 -- What was read, and which lines were run: all, or, where a lane may have stopped for want of memory, some of each lane. No call was made where
 -- the script was refused.

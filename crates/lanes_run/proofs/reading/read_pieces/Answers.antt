@@ -1,5 +1,4 @@
 use Rattle.std.proofs.Common.{◌≡◌, refl, sym, ◌∙◌, subst, ℕ, List, ◌++◌, length, ap, arith, rules}
-use Rattle.std.specs.Prelude.{vec_capacity}
 use Rattle.lanes_run.specs.Judging.{BytesRead, EndJudged}
 use Rattle.lanes_run.proofs.Taken.{Reading, Fed, reading_start, reading_bound, no_memory, read_stops, more_behind, fed, reading_more, piece_stops, at_end, end_stops}
 use Rattle.lanes_run.proofs.reading.read_pieces.Goals as goal
