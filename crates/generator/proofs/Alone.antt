@@ -4,6 +4,7 @@ use Rattle.std.specs.List.{find, filter, AllByRecursion}
 use Rattle.std.specs.Option.{option_map, unwrap_or, MatchOption}
 use Rattle.std.specs.Prelude.{is_none, is_some, nat_le}
 use Rattle.std.proofs.lemmas.Bool.{eq-eqb, lt-ltb, leb-true}
+use Rattle.object_graph.specs.declared.names.TheConstants.{OBJECT_FIELDS}
 use Rattle.object_graph.specs.NameParts.{NameParts}
 use Rattle.object_graph.specs.Names.{root_name}
 use Rattle.object_graph.specs.Graphs.{has_name}
@@ -35,7 +36,7 @@ free_alone w call note why none may = subst (λ (o : Option Refusal). MatchOptio
 pub unbroken : (w : World) → IsSound w → broken w ≡ None
 unbroken w s = ap (option_map (λ count. Broken count)) s.whole
 
-pub uncounted : (n : ℕ) → n < 2 ^ 48 → spent n ≡ None
+pub uncounted : (n : ℕ) → n < MOST_COUNTED → spent n ≡ None
 uncounted n low = by_test (nat_le MOST_COUNTED n) refl
   where
     by_test : (b : Bool) → nat_le MOST_COUNTED n ≡ b → when b (Spent n) ≡ None
@@ -82,8 +83,8 @@ module _ (names : List NameParts) (calls : ℕ) (w : World) (a : IsAlone names c
   no_stranger : (name : NameParts) → has_name t.known name ≡ true → stranger w 1 name ≡ None
   no_stranger name k = ap (λ (u : Transaction). when (not (has_name u.known name)) Stranger) is_it ∙ ap (λ b. when (not b) Stranger) k
 
-  right_field : (name : NameParts) (field : ℕ) → field < 4 → bad_field w name field ≡ None
-  right_field name field low = ap (λ b. when (not b) BadField) (lt-ltb field 4 low)
+  right_field : (name : NameParts) (field : ℕ) → field < OBJECT_FIELDS → bad_field w name field ≡ None
+  right_field name field low = ap (λ b. when (not b) BadField) (lt-ltb field OBJECT_FIELDS low)
 
   right_page : (page : ℕ) → page < store_pages → no_page w page ≡ None
   right_page page low = ap (λ b. when (not b) NoPage) (lt-ltb page w.pages (let p = a.sound.right in omega arith))
@@ -115,7 +116,7 @@ module _ (names : List NameParts) (calls : ℕ) (w : World) (a : IsAlone names c
 
   -- ---- its calls
 
-  pub get_may : (name : NameParts) (field : ℕ) (note : Note) → has_name t.known name ≡ true → field < 4 → calls < 60 → first_refusal w (Get 1 name field) note ≡ None
+  pub get_may : (name : NameParts) (field : ℕ) (note : Note) → has_name t.known name ≡ true → field < OBJECT_FIELDS → calls < 60 → first_refusal w (Get 1 name field) note ≡ None
   get_may name field note k low few =
       skip (broken w) _ (unbroken w a.sound) ∙ (skip (not_open w 1) _ is_open ∙ (skip (stranger w 1 name) _ (no_stranger name k)
       ∙ (skip (bad_field w name field) _ (right_field name field low) ∙ (skip (busy_to_read w 1 name.page) _ (free_to_read name.page)
@@ -125,7 +126,7 @@ module _ (names : List NameParts) (calls : ℕ) (w : World) (a : IsAlone names c
   known_target None k = refl
   known_target (Some target) k = no_stranger target k
 
-  pub set_may : (name : NameParts) (field : ℕ) (target : Option NameParts) (note : Note) → has_name t.known name ≡ true → IsKnown t target → field < 4 → calls < 60
+  pub set_may : (name : NameParts) (field : ℕ) (target : Option NameParts) (note : Note) → has_name t.known name ≡ true → IsKnown t target → field < OBJECT_FIELDS → calls < 60
       → first_refusal w (Set 1 name field target) note ≡ None
   set_may name field target note k known low few =
       skip (broken w) _ (unbroken w a.sound) ∙ (skip (not_open w 1) _ is_open ∙ (skip (stranger w 1 name) _ (no_stranger name k)

@@ -3,6 +3,7 @@ use Rattle.std.proofs.Common.{◌≡◌, refl, sym, ap, ◌∙◌, subst, ℕ, �
 use Rattle.std.specs.List.{AllByRecursion}
 use Rattle.std.specs.Option.{MatchOption, option_map, is_none}
 use Rattle.disk_trait.specs.declared.disk.Disk.{Ghosts as DiskOf}
+use Rattle.object_graph.specs.declared.names.TheConstants.{OBJECT_FIELDS}
 use Rattle.object_graph.specs.NameParts.{NameParts}
 use Rattle.object_graph.specs.Names.{root_name}
 use Rattle.object_graph.specs.Graphs.{has_name}
@@ -36,13 +37,13 @@ begin_only w r = only_stopped w (Begin 1) (λ note. begin_may w note r)
 pub commit_only : (names : List NameParts) (calls : ℕ) (w : World) → IsAlone names calls w → IsOnlyStopped w (Commit 1)
 commit_only names calls w a = only_stopped w (Commit 1) (commit_may names calls w a)
 
-pub get_never : (names : List NameParts) (calls : ℕ) (w : World) (name : NameParts) (field : ℕ) → IsAlone (name ∷ names) calls w → calls < 60 → field < 4 → IsNeverRefused w (Get 1 name field)
+pub get_never : (names : List NameParts) (calls : ℕ) (w : World) (name : NameParts) (field : ℕ) → IsAlone (name ∷ names) calls w → calls < 60 → field < OBJECT_FIELDS → IsNeverRefused w (Get 1 name field)
 get_never names calls w name field a few low = never_refused w (Get 1 name field) refl refl (λ note. get_may (name ∷ names) calls w a name field note a.knows.known.0 low few)
 
 pub put_never : (names : List NameParts) (calls : ℕ) (w : World) (name : NameParts) (value : ℕ) → IsAlone (name ∷ names) calls w → calls < 60 → IsNeverRefused w (Put 1 name value)
 put_never names calls w name value a few = never_refused w (Put 1 name value) refl refl (λ note. put_may (name ∷ names) calls w a name value note a.knows.known.0 few)
 
-pub set_never : (names : List NameParts) (calls : ℕ) (w : World) (name : NameParts) (field : ℕ) (target : Option NameParts) → (a : IsAlone names calls w) → calls < 60 → field < 4
+pub set_never : (names : List NameParts) (calls : ℕ) (w : World) (name : NameParts) (field : ℕ) (target : Option NameParts) → (a : IsAlone names calls w) → calls < 60 → field < OBJECT_FIELDS
     → has_name a.transaction.known name ≡ true → IsKnown a.transaction target → IsNeverRefused w (Set 1 name field target)
 set_never names calls w name field target a few low known its =
     never_refused w (Set 1 name field target) refl refl (λ note. set_may names calls w a name field target note known its low few)
@@ -52,12 +53,12 @@ root_behind : (t : Transaction) (target : Option NameParts) → AllByRecursion (
 root_behind t None k = k.0
 root_behind t (Some name) k = k.1.0
 
-pub link_never : (calls : ℕ) (w : World) (name : NameParts) (old : Option NameParts) (field : ℕ) → IsAlone (name ∷ learnt old (root_name ∷ [])) calls w → calls < 60 → field < 4
+pub link_never : (calls : ℕ) (w : World) (name : NameParts) (old : Option NameParts) (field : ℕ) → IsAlone (name ∷ learnt old (root_name ∷ [])) calls w → calls < 60 → field < OBJECT_FIELDS
     → IsNeverRefused w (Set 1 root_name field (Some name))
 link_never calls w name old field a few low =
     set_never (name ∷ learnt old (root_name ∷ [])) calls w root_name field (Some name) a few low (root_behind a.transaction old a.knows.known.1) a.knows.known.0
 
-pub clear_never : (calls : ℕ) (w : World) (old : Option NameParts) (field : ℕ) → IsAlone (learnt old (root_name ∷ [])) calls w → calls < 60 → field < 4
+pub clear_never : (calls : ℕ) (w : World) (old : Option NameParts) (field : ℕ) → IsAlone (learnt old (root_name ∷ [])) calls w → calls < 60 → field < OBJECT_FIELDS
     → IsNeverRefused w (Set 1 root_name field None)
 clear_never calls w old field a few low = set_never (learnt old (root_name ∷ [])) calls w root_name field None a few low (root_behind a.transaction old a.knows.known) tt
 
@@ -266,7 +267,7 @@ module _ {D : Type 0} (disks : DiskOf D) where
   begun_alone : (a b : Seen D) (reply : Reply) → IsResting a.world → Replied disks a b (Begin 1) reply → IsAlone (root_name ∷ []) 0 b.world
   begun_alone a b reply rest r = subst (λ (w : World). IsAlone (root_name ∷ []) 0 w) (sym r.is) (begun a.world rest)
 
-  pub look_never : (a b : Seen D) (field : ℕ) (reply : Reply) → IsResting a.world → field < 4 → Replied disks a b (Begin 1) reply → IsNeverRefused b.world (Get 1 root_name field)
+  pub look_never : (a b : Seen D) (field : ℕ) (reply : Reply) → IsResting a.world → field < OBJECT_FIELDS → Replied disks a b (Begin 1) reply → IsNeverRefused b.world (Get 1 root_name field)
   look_never a b field reply rest low r = get_never [] 0 b.world root_name field (begun_alone a b reply rest r) (omega arith) low
 
   pub has_begun : (a b c : Seen D) (field : ℕ) (reply : Reply) (target : Option NameParts) → IsResting a.world → Replied disks a b (Begin 1) reply

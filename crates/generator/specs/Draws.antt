@@ -1,5 +1,6 @@
 -- The numbers that a run of the generator draws, and what a round takes from one.
 use Rattle.std.specs.Prelude.{ℕ, zero, suc, ◌+◌, ◌*◌, ◌/◌, ◌%◌, ◌^◌}
+use Rattle.object_graph.specs.declared.names.TheConstants.{OBJECT_FIELDS}
 
 -- the number after another
 abbrev pub next_draw : ℕ → ℕ
@@ -16,7 +17,7 @@ page_drawn x = (x / 2 ^ 33) % 16
 
 -- the field of the root that it changes
 abbrev pub field_drawn : ℕ → ℕ
-field_drawn x = (x / 2 ^ 40) % 4
+field_drawn x = (x / 2 ^ 40) % OBJECT_FIELDS
 
 -- 1 where the new object keeps what stood in that field
 abbrev pub keep_drawn : ℕ → ℕ

@@ -8,7 +8,7 @@ ghost use Rattle.generator.specs.Making.{Begins, Fills, GoesOn, MadeNew, Transac
 
 use crate::asking::{Stop, ask, tell};
 use disk_trait::Disk;
-use object_graph::{Call, Name, ROOT, Reply, Steps};
+use object_graph::{Call, Name, OBJECT_FIELDS, ROOT, Reply, Steps};
 use std::sync::ledger::Ledger;
 use std::thread::Threads;
 use store_machine::Machine;
@@ -27,9 +27,9 @@ fn page_of(drawn: u64) -> u32
 /// The field of the root that it changes.
 fn field_of(drawn: u64) -> u32
     ensures drawn { result ≡ field_drawn drawn }
-    ensures bound { result < 4 }
+    ensures bound { result < OBJECT_FIELDS }
 {
-    ((drawn >> 40) % 4) as u32
+    ((drawn >> 40) % OBJECT_FIELDS as u64) as u32
 }
 
 /// Whether the new object keeps what stood in that field.
@@ -72,7 +72,7 @@ fn begin<T: Threads + Sync, D: Disk, L: Ledger>(
     steps: &mut Steps<L>,
 ) -> Result<Option<Name>, Stop>
     requires resting { IsResting machine.old.world }
-    requires field { field < 4 }
+    requires field { field < OBJECT_FIELDS }
     ensures { Begins ⟦<D as Disk>⟧ machine.old machine.new field result }
 {
     if let Err(stop) = ask(machine, threads, Call::Begin { txn: TXN }, steps) {
