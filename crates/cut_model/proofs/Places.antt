@@ -61,12 +61,14 @@ and_not true true c h = cc
 and_not true false true h = cc
 and_not false b c h = cc
 
--- the slots in use in the settled image, neither born nor marked, are those of the doomed names
-pub doomed_slots : (opening : Opening) (roots : List NameParts) (pages : List CutPage) (marks : ℕ → ℕ) (page slots : ℕ) (image : List SlotParts)
-    → ((o : ObjectParts) → In o (cut_graph pages) → IsSafeObject opening o) → page < length pages → settled_image (get_or pages page bare_page) ≡ Some image
+-- where each place of a cut has one name, the slots in use in the settled image, neither born nor marked, are those of
+-- the doomed names
+pub doomed_names : (roots : List NameParts) (pages : List CutPage) (marks : ℕ → ℕ) (page slots : ℕ) (image : List SlotParts)
+    → ((a b : ObjectParts) → In a (cut_graph pages) → In b (cut_graph pages) → a.name.page ≡ b.name.page → a.name.slot ≡ b.name.slot → a.name ≡ b.name)
+    → page < length pages → settled_image (get_or pages page bare_page) ≡ Some image
     → AreMarks roots pages marks → ((slot : ℕ) → has_slot slots slot ≡ is_doomed image (get_or pages page bare_page).born (marks page) slot)
     → AreDoomedOn roots pages page slots
-doomed_slots opening roots pages marks page slots image safe within settled marked is = λ slot. (
+doomed_names roots pages marks page slots image once within settled marked is = λ slot. (
   λ h.
       let a = and_not (is_used image slot) (has_slot (get_or pages page bare_page).born slot) (has_slot (marks page) slot) (sym (is slot) ∙ h) in
       let o : ObjectParts = object_in page slot (get_or image slot no_slot) in
@@ -94,7 +96,7 @@ doomed_slots opening roots pages marks page slots image safe within settled mark
           let q : ObjectParts = there.0 in
           let p : q.name.page ≡ o.name.page = ap (λ (k : NameParts). k.page) there.2 ∙ (n.2 ∙ (sym on ∙ sym (ap (λ (k : NameParts). k.page) named))) in
           let s : q.name.slot ≡ o.name.slot = ap (λ (k : NameParts). k.slot) there.2 ∙ (n.3 ∙ sym (ap (λ (k : NameParts). k.slot) named)) in
-          let same : n.0 ≡ name = sym there.2 ∙ (one_name opening q o (safe q there.1) (safe o m) p s ∙ named) in
+          let same : n.0 ≡ name = sym there.2 ∙ (once q o there.1 m p s ∙ named) in
           absurd (un (subst (IsMarked roots pages) same n.1))
     ]
 
@@ -112,3 +114,11 @@ doomed_slots opening roots pages marks page slots image safe within settled mark
         let unmarked : has_slot (marks page) slot ≡ false = subst (λ k. has_slot (marks page) k ≡ false) at (unmarked_here name d.object graph d.named on d.unmarked) in
         and_from (is_used image slot) (not (has_slot (get_or pages page bare_page).born slot) && not (has_slot (marks page) slot)) used
         (and_from (not (has_slot (get_or pages page bare_page).born slot)) (not (has_slot (marks page) slot)) (ap not unborn) (ap not unmarked))
+
+-- so it is in a sound cut
+pub doomed_slots : (opening : Opening) (roots : List NameParts) (pages : List CutPage) (marks : ℕ → ℕ) (page slots : ℕ) (image : List SlotParts)
+    → ((o : ObjectParts) → In o (cut_graph pages) → IsSafeObject opening o) → page < length pages → settled_image (get_or pages page bare_page) ≡ Some image
+    → AreMarks roots pages marks → ((slot : ℕ) → has_slot slots slot ≡ is_doomed image (get_or pages page bare_page).born (marks page) slot)
+    → AreDoomedOn roots pages page slots
+doomed_slots opening roots pages marks page slots image safe within settled marked is =
+    doomed_names roots pages marks page slots image (λ a b m n p s. one_name opening a b (safe a m) (safe b n) p s) within settled marked is

@@ -15,7 +15,8 @@ use Rattle.mark_pool.specs.declared.place.Place.{Place}
 use Rattle.mark_pool.specs.declared.view.View.{View}
 use Rattle.mark_pool.specs.Edges.{place, IsMarkAt, IsEdge}
 use Rattle.mark_pool.specs.Marks.{view, is_here, times, bit, parts_of, Fits, Ruled, opened, added, IsAt, claimed, took, scanned, saw, saw_scanned, counted, marked_of, halved, half, joined, empty_view}
-use Rattle.mark_pool.proofs.Sums.{total_set, total_snoc, total_one, total_two, total_only, times-append}
+use Rattle.object_graph.proofs.Totals.{total_set, total_snoc, total_one, total_two, total_only}
+use Rattle.mark_pool.proofs.Times.{times-append}
 use Rattle.mark_pool.proofs.Bits.{small, same_slot, elsewhere, ored, ors_here, ors_apart, ors_grow, ors_from, ors_count, same_or, times-marked_of}
 
 module _ (cut : ClosedParts) where

@@ -1,4 +1,4 @@
-mod Sums
+mod Times
 mod Bits
 mod Keeps
 mod Seated

@@ -7,7 +7,7 @@ use Rattle.mark_pool.specs.Seats.{Made, Known, IsOf, with_seen, joined_seats}
 use Rattle.mark_pool.specs.Jobs.{HasSame, HasMore}
 use Rattle.mark_pool.specs.declared.place.Place.{Place}
 use Rattle.mark_pool.specs.Walks.{IsTidy, IsWhole, MarksMore, Works, Looks}
-use Rattle.mark_pool.proofs.Sums.{times-append}
+use Rattle.mark_pool.proofs.Times.{times-append}
 
 pub more_same : (s : Known) → MarksMore s s
 more_same s = record { table = refl; cut = refl; takes = refl; scans = refl; parts = refl; claims = λ page slot h. h; seen = λ page slot h. h }

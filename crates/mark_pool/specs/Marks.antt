@@ -1,6 +1,7 @@
 -- The rule of the words, and what each step tells. Page p has the words 3 p (marked), 3 p + 1 (taken to scan) and 3 p + 2 (scanned).
 use Rattle.std.specs.Prelude.{◌≡◌, ℕ, ◌+◌, ◌-◌, ◌*◌, ◌^◌, ◌<◌, ◌≤◌, ◌==◌, cond, Option, Some, None, List, [], ◌∷◌, ◌++◌, length, slice_index, zero, suc}
 use Rattle.std.specs.Int.{bit_at}
+use Rattle.object_graph.specs.Totals.{total}
 use Rattle.object_graph.specs.declared.limits.TheConstants.{MOST_SLOTS}
 use mathlib.Core.Option.{some}
 use lib.ListN.{get_elem?}
@@ -16,11 +17,6 @@ view seen claims takes scans parts cut = record { seen = seen; claims = claims; 
 -- the parts of all seats of a table
 abbrev pub all_parts : ℕ
 all_parts = 65536
-
--- the values of f, added up
-abbrev pub total : {A : Type 0} → (A → ℕ) → List A → ℕ
-total f [] = 0
-total f (x ∷ xs) = f x + total f xs
 
 -- 1 where this is the place, else 0
 abbrev pub is_here : ℕ → ℕ → Place → ℕ

@@ -7,3 +7,4 @@ pub mod Graphs
 pub mod Walks
 pub mod Members
 pub mod Replies
+pub mod Totals

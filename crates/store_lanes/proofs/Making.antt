@@ -36,10 +36,10 @@ use Rattle.store_desk.proofs.Kept.{known_first, history-append, cut_at}
 use Rattle.store_lanes.specs.LaneScripts.{wishes_of}
 use Rattle.store_lanes.specs.Lanes.{Known, PartRan, WentOut, MarksRan, LineServed}
 use Rattle.store_lanes.specs.Owned.{part, OwnsLanes, own_part, Added}
-use Rattle.store_lanes.specs.Served.{ServesBy, IsOwnPart, call_on, is_plain}
+use Rattle.store_lanes.specs.Served.{ServesBy, IsOwnPart, call_on, is_plain, without_bool}
 use Rattle.store_lanes.specs.declared.collect.OnPage.TheVariants as on_page
 use Rattle.store_lanes.proofs.Owned.{part-grown, part-more, owns_grown, owns_more}
-use Rattle.store_lanes.proofs.Served.{outcome_one, outcome_then, outcome_more, IsStopped, own_marks, own_both, own_line, serves_by, without_bool}
+use Rattle.store_lanes.proofs.Served.{outcome_one, outcome_then, outcome_more, IsStopped, own_marks, own_both, own_line, serves_by}
 
 pub starts_history : (xs ys : List Event) → StartsWith xs ys → StartsWith (history xs) (history ys)
 starts_history xs ys s = (history s.0, ap history s.1 ∙ history-append ys s.0)

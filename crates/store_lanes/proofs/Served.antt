@@ -9,7 +9,7 @@ use Rattle.object_graph.proofs.Members.{each_in, each_from, in_append, append_le
 use Rattle.store_model.specs.Causes.{marks_of}
 use Rattle.store_model.specs.Histories.{is_refused}
 use Rattle.store_model.specs.Lanes.{Moment, one_call, Serves, IsOwnLine, HandsInOwn, MarksOwn, ClosedCut}
-use Rattle.store_lanes.specs.Served.{ServesFront, ServesBy, Passes, Ends, Outcome, GivesOwn, IsOwnIn, IsOwnPart, is_plain}
+use Rattle.store_lanes.specs.Served.{ServesFront, ServesBy, Passes, Ends, Outcome, GivesOwn, IsOwnIn, IsOwnPart, is_plain, without_bool}
 
 -- ---- one part after another
 
@@ -77,11 +77,6 @@ front_passed : (calls left : List Call) (ms : List Moment) → Passes calls left
 front_passed calls left [] p = tt
 front_passed [] left (m ∷ ms) p = absurd p
 front_passed (call ∷ calls) left (m ∷ ms) p = (p.0, at_false (ms ≡ []) (ServesFront (map one_call calls) ms) (is_refused m.event.entry.reply) p.1 (front_passed calls left ms p.2))
-
--- whether all was done is nothing to the line
-abbrev pub without_bool : Result Bool Memory → Result (Unit {0}) Memory
-without_bool (Ok b) = Ok tt
-without_bool (Err e) = Err e
 
 pub serves_by : (calls : List Call) (ms : List Moment) (result : Result Bool Memory) → Outcome calls ms result → ServesBy (map one_call calls) ms (without_bool result)
 serves_by calls ms (Ok true) o = serves_passed calls ms o

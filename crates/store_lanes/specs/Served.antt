@@ -80,3 +80,8 @@ IsOwnIn line m = (is_plain m.event.entry.call ≡ true) ⊎ GivesOwn line m
 
 abbrev pub IsOwnPart : List Moment → Type 0
 IsOwnPart line = AllByRecursion (IsOwnIn line) line
+
+-- whether all was done is nothing to the line
+abbrev pub without_bool : Result Bool Memory → Result (Unit {0}) Memory
+without_bool (Ok b) = Ok tt
+without_bool (Err e) = Err e

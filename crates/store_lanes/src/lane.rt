@@ -3,6 +3,7 @@ ghost use Rattle.std.specs.Prelude.{◌≡◌, ◌<◌, ◌&&◌, [], ◌∷◌}
 ghost use Rattle.script_lang.specs.Script.{lines_of};
 ghost use Rattle.store_lanes.specs.Lanes.{IsRun, LanesRan, LineRan, LineServed};
 ghost use Rattle.store_lanes.specs.Owned.{SameSeat};
+ghost use Rattle.store_lanes.specs.Served.{without_bool};
 
 use crate::collect::collect;
 use crate::step::step;
@@ -37,10 +38,14 @@ fn serve<R: Threads + Wait + Sync, D: Disk>(
         Line::Collect { workers } => collect(rt, alloc, desk, seat, lane, workers),
         Line::Note => unreachable!(),
     };
-    match ran {
-        Ok(_) => Ok(()),
-        Err(memory) => Err(memory),
-    }
+    without_value(ran)
+}
+
+/// Whether all was done is nothing to the line.
+fn without_value(ran: Result<bool, Memory>) -> Result<(), Memory>
+    ensures { result ≡ without_bool ran }
+{
+    ran.map(|_| ())
 }
 
 /// Runs a line, where it is one of the lane, behind the gate. Answers whether it was.

@@ -1,14 +1,17 @@
 -- The images of a fresh store open to the fresh world.
-use Rattle.std.proofs.Common.{◌≡◌, ℕ, ◌<◌, ◌==◌, Bool, true, false, cond, List, [], length, get_or, None, sym, ◌∙◌, ap, subst, arith, inl, inr}
+use Rattle.std.proofs.Common.{◌≡◌, ℕ, ◌<◌, ◌==◌, ◌&&◌, Bool, true, false, cond, List, [], length, map, nat_eq, get_or, None, refl, sym, ◌∙◌, ap, subst, arith, inl, inr}
 use Rattle.std.specs.List.{filter}
 use Rattle.std.proofs.lemmas.Bool.{cases_Bool, and_parts, eqb-true}
 use Rattle.object_graph.specs.NameParts.{NameParts}
 use Rattle.object_graph.specs.SlotParts.{SlotParts}
 use Rattle.object_graph.specs.Names.{root_name}
 use Rattle.object_graph.specs.ObjectParts.{ObjectParts}
+use Rattle.object_graph.specs.declared.names.TheConstants.{OBJECT_FIELDS}
+use Rattle.object_graph.specs.declared.sizes.TheConstants.{SLOTS_PER_PAGE}
+use Rattle.object_graph.specs.Slots.{below}
 use Rattle.object_graph.specs.Graphs.{is_at, fresh_graph}
 use Rattle.store_model.specs.Worlds.{World, no_doubt, fields_of, is_unfreed, fresh_world}
-use Rattle.store_model.specs.Images.{slot_with, shown, all_shown}
+use Rattle.store_model.specs.Images.{slot_with, shown_of, shown, all_shown}
 use Rattle.store_model.specs.FromImages.{slot_in, of_places, freed_in, all_objects_in, bare_world, world_of}
 use Rattle.store_model.proofs.Flats.{length-map_below}
 use Rattle.store_model.proofs.PlacedLists.{places_one}
@@ -25,6 +28,29 @@ abbrev slot_where : ℕ → Bool → SlotParts
 slot_where fields here =
     let objects : List ObjectParts = cond here fresh_graph [] in
     slot_with fields (filter (is_unfreed []) objects) (length objects)
+
+-- ---- what each page shows, by whether it is the root's
+
+abbrev pub fresh_slots : Bool → List SlotParts
+fresh_slots root = map (λ slot. slot_where OBJECT_FIELDS (root && (0 == slot))) (below SLOTS_PER_PAGE)
+
+shown_is : (count page : ℕ) → shown (fresh_world count) page ≡ fresh_slots (0 == page)
+unfolding shown_of
+shown_is count page = refl
+
+root_page : (page : ℕ) → (0 == page) ≡ nat_eq page 0
+root_page page = elim (cases_Bool (nat_eq page 0)) [
+  | inl e ↦ let zero : page ≡ 0 = eqb-true page 0 e in ap (λ (p : ℕ). 0 == p) zero ∙ sym e
+  | inr e ↦ elim (cases_Bool (0 == page)) [
+    | inr f ↦ f ∙ sym e
+    | inl f ↦ let zero : page ≡ 0 = sym (eqb-true 0 page f) in let z : nat_eq page 0 ≡ true = ap (λ p. nat_eq p 0) zero in absurd cc
+  ]
+]
+
+pub fresh_shown : (count page : ℕ) → shown (fresh_world count) page ≡ fresh_slots (nat_eq page 0)
+fresh_shown count page = shown_is count page ∙ ap fresh_slots (root_page page)
+
+-- ---- they open to it
 
 module _ (pages : ℕ) where
   abbrev w : World

@@ -1,102 +1,50 @@
 -- A test of histories that computes, and is right where it says yes.
-use Rattle.std.proofs.Common.{◌≡◌, ℕ, zero, suc, ◌+◌, Bool, true, false, ◌&&◌, ◌||◌, ◌==◌, List, [], ◌∷◌, Option, Some, None, refl, sym, ap, ◌∙◌, inl, inr, ◌^◌}
-use Rattle.std.specs.List.{slice_get}
-use Rattle.std.specs.Option.{is_none, unwrap_or, MatchOption}
+use Rattle.std.proofs.Common.{◌≡◌, ℕ, ◌+◌, Bool, true, false, ◌&&◌, ◌||◌, ◌==◌, List, [], ◌∷◌, get_or, Option, Some, None, refl, sym, ap, ◌∙◌, inl, inr, ◌^◌}
+use Rattle.std.specs.Option.{is_none, MatchOption}
 use Rattle.std.proofs.lemmas.Bool.{and_parts, or_cases, eqb-true}
 use Rattle.object_graph.specs.NameParts.{NameParts}
 use Rattle.object_graph.specs.Names.{name_eq}
-use Rattle.object_graph.specs.declared.calls.Phase.{Phase}
 use Rattle.object_graph.specs.declared.calls.Phase.TheVariants.{Copying, Closed, Sweeping}
 use Rattle.object_graph.specs.declared.calls.Call.{Call}
 use Rattle.object_graph.specs.declared.calls.Call.TheVariants.{Get, Number, New, Commit, OpenCut, Sweep, Reopen}
 use Rattle.object_graph.specs.declared.calls.Reply.{Reply}
 use Rattle.object_graph.specs.declared.calls.Reply.TheVariants.{Done, Ref, Num, Made, Committed, Cut, Freed, Reopened, Refused}
 use Rattle.object_graph.specs.declared.calls.Refusal.{Refusal}
-use Rattle.object_graph.specs.declared.calls.Refusal.TheVariants.{NotOpen, Stranger, BadField, NoPage, Busy, TooWide, KnowsTooMany, PageFull, AlreadyOpen, TooMany, CutThere, NoCut, WrongPhase, AlreadyCopied, Uncopied, OtherCut, AlreadySwept, Unswept, Spent, DiskFault, Broken, NotAStore, Damaged, Memory}
+use Rattle.object_graph.specs.declared.calls.Refusal.TheVariants.{WrongPhase, Memory}
 use Rattle.store_model.specs.Worlds.{World, OpenedCut, Doubt, no_doubt, commit_in_doubt, sweep_in_doubt, Note, Event}
+use Rattle.store_model.specs.Texts.{refusal_numbers}
 use Rattle.store_model.specs.Causes.{first_refusal, field_seen, number_seen, new_name}
 use Rattle.store_model.specs.Replies.{AllowsReply, Answers, AnswersSweep, AnswersReopen, AnswersNew, MayFree, MayReopen, is_free, found_in, has_note, MayBeFound, names_in}
 use Rattle.store_model.specs.Steps.{next}
 use Rattle.store_model.specs.Histories.{IsLegal}
 use Rattle.object_graph.proofs.Paths.{name_eq_same}
+use Rattle.store_model.proofs.Spelled.{letter}
+use Rattle.store_model.proofs.RefusalTexts.{refusal_kind, refusals_of}
 use Rattle.store_model.proofs.Rounds.{may_free, may_free_by_test}
 
--- ---- refusals as two numbers
+-- ---- refusals as two numbers: its kind and the number in its text
 
-abbrev pub phase_number : Phase → ℕ
-phase_number Copying = 0
-phase_number Closed = 1
-phase_number Sweeping = 2
+abbrev pub number_in : Refusal → ℕ
+number_in why = letter (refusal_numbers why) 0
 
-abbrev pub phase_of : ℕ → Phase
-phase_of zero = Copying
-phase_of (suc zero) = Closed
-phase_of (suc (suc n)) = Sweeping
+abbrev pub refusal_with : ℕ → ℕ → Refusal
+refusal_with kind n = get_or (refusals_of n) kind Memory
 
-phase_again : (phase : Phase) → phase_of (phase_number phase) ≡ phase
-phase_again Copying = refl
-phase_again Closed = refl
-phase_again Sweeping = refl
-
-abbrev pub kind_of : Refusal → ℕ
-kind_of NotOpen = 0
-kind_of Stranger = 1
-kind_of BadField = 2
-kind_of NoPage = 3
-kind_of (Busy holder) = 4
-kind_of TooWide = 5
-kind_of KnowsTooMany = 6
-kind_of (PageFull page) = 7
-kind_of AlreadyOpen = 8
-kind_of TooMany = 9
-kind_of (CutThere number) = 10
-kind_of NoCut = 11
-kind_of (WrongPhase now) = 12
-kind_of (AlreadyCopied page) = 13
-kind_of (Uncopied page) = 14
-kind_of (OtherCut now) = 15
-kind_of (AlreadySwept page) = 16
-kind_of (Unswept page) = 17
-kind_of (Spent count) = 18
-kind_of DiskFault = 19
-kind_of (Broken faults) = 20
-kind_of NotAStore = 21
-kind_of (Damaged at) = 22
-kind_of Memory = 23
-
-abbrev pub argument_of : Refusal → ℕ
-argument_of (Busy holder) = holder
-argument_of (PageFull page) = page
-argument_of (CutThere number) = number
-argument_of (WrongPhase now) = phase_number now
-argument_of (AlreadyCopied page) = page
-argument_of (Uncopied page) = page
-argument_of (OtherCut now) = now
-argument_of (AlreadySwept page) = page
-argument_of (Unswept page) = page
-argument_of (Spent count) = count
-argument_of (Broken faults) = faults
-argument_of (Damaged at) = at
-argument_of _ = 0
-
-abbrev pub refusal_of : ℕ → ℕ → Refusal
-refusal_of kind n =
-    unwrap_or (slice_get (NotOpen ∷ Stranger ∷ BadField ∷ NoPage ∷ Busy n ∷ TooWide ∷ KnowsTooMany ∷ PageFull n ∷ AlreadyOpen ∷ TooMany ∷ CutThere n ∷ NoCut
-    ∷ WrongPhase (phase_of n) ∷ AlreadyCopied n ∷ Uncopied n ∷ OtherCut n ∷ AlreadySwept n ∷ Unswept n ∷ Spent n ∷ DiskFault ∷ Broken n ∷ NotAStore ∷ Damaged n ∷ Memory ∷ []) kind) Memory
-
-pub refusal_again : (why : Refusal) → refusal_of (kind_of why) (argument_of why) ≡ why
-refusal_again (WrongPhase now) = ap (λ p. WrongPhase p) (phase_again now)
+pub refusal_again : (why : Refusal) → refusal_with (refusal_kind why) (number_in why) ≡ why
+refusal_again (WrongPhase Copying) = refl
+refusal_again (WrongPhase Closed) = refl
+refusal_again (WrongPhase Sweeping) = refl
 refusal_again _ = refl
 
 abbrev pub same_refusal : Refusal → Refusal → Bool
-same_refusal a b = (kind_of a == kind_of b) && (argument_of a == argument_of b)
+same_refusal a b = (refusal_kind a == refusal_kind b) && (number_in a == number_in b)
 
 pub refusal_is : (a b : Refusal) → same_refusal a b ≡ true → a ≡ b
 refusal_is a b h =
-    let s = and_parts (kind_of a == kind_of b) (argument_of a == argument_of b) h in
+    let s = and_parts (refusal_kind a == refusal_kind b) (number_in a == number_in b) h in
     sym (refusal_again a)
-    ∙ (ap (λ k. refusal_of k (argument_of a)) (eqb-true (kind_of a) (kind_of b) s.0)
-    ∙ (ap (refusal_of (kind_of b)) (eqb-true (argument_of a) (argument_of b) s.1)
+    ∙ (ap (λ k. refusal_with k (number_in a)) (eqb-true (refusal_kind a) (refusal_kind b) s.0)
+    ∙ (ap (refusal_with (refusal_kind b)) (eqb-true (number_in a) (number_in b) s.1)
     ∙ refusal_again b))
 
 -- ---- answers

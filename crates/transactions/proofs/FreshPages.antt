@@ -16,6 +16,7 @@ use Rattle.store_model.specs.Worlds.{is_unfreed, fresh_world}
 use Rattle.store_model.specs.Images.{slot_with, shown_of, shown, all_shown}
 use Rattle.store_model.specs.FromImages.{has_root, IsWhole}
 use Rattle.store_model.proofs.Flats.{get-map_below, length-map_below}
+use Rattle.store_model.proofs.FreshImages.{fresh_slots, fresh_shown}
 use Rattle.store_model.proofs.Lawfulness.{fresh_is_lawful_world}
 use Rattle.store_model.proofs.ShownWorlds.{shows_root, shows_whole}
 use Rattle.page_image.specs.Slots.{taken}
@@ -36,31 +37,12 @@ one_more count = let e : count + 1 ≡ suc count = omega arith in ap fresh_pages
 
 -- ---- they are what a fresh world shows
 
--- a slot of the first page, or of another
-abbrev slot_of : Bool → ℕ → SlotParts
-slot_of root slot =
-    let objects : List ObjectParts = cond (root && (0 == slot)) fresh_graph [] in
-    slot_with OBJECT_FIELDS (filter (is_unfreed []) objects) (length objects)
-
-abbrev slots_by : Bool → List SlotParts
-slots_by root = map (slot_of root) (below SLOTS_PER_PAGE)
-
-shown_is : (count page : ℕ) → shown (fresh_world count) page ≡ slots_by (0 == page)
-unfolding shown_of
-shown_is count page = refl
-
 slots_are : (count page : ℕ) → (fresh page).slots ≡ shown (fresh_world count) page
-slots_are count page = elim (cases_Bool (nat_eq page 0)) [
-  | inl e ↦
-      let zero : page ≡ 0 = eqb-true page 0 e in
-      subst (λ (p : ℕ). (fresh p).slots ≡ shown (fresh_world count) p) (sym zero) (sym (shown_is count 0))
-  | inr e ↦
-      let none : (0 == page) ≡ false = elim (cases_Bool (0 == page)) [
-        | inr f ↦ f
-        | inl f ↦ let zero : page ≡ 0 = sym (eqb-true 0 page f) in let z : nat_eq page 0 ≡ true = ap (λ p. nat_eq p 0) zero in absurd cc
-      ] in
-      ap (λ (b : Bool). (by_root page b).slots) e ∙ sym (shown_is count page ∙ ap slots_by none)
-]
+slots_are count page = by (nat_eq page 0) ∙ sym (fresh_shown count page)
+  where
+    by : (root : Bool) → (by_root page root).slots ≡ fresh_slots root
+    by true = refl
+    by false = refl
 
 images_are : (count : ℕ) → images_of (fresh_pages count) ≡ all_shown (fresh_world count)
 images_are count = each (below count)

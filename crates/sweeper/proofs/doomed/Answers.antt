@@ -6,7 +6,8 @@ use Rattle.page_image.specs.Slots.{fresh_slot}
 use Rattle.cut_model.specs.CutPages.{settled_image}
 use Rattle.cut_model.specs.Doomed.{is_doomed}
 use Rattle.cut_builder.specs.CutParts.{ClosedParts, page_of, starts_of, marks_of, HasOneNameEach}
-use Rattle.sweeper.proofs.Left.{in_use_either, doomed_names}
+use Rattle.cut_model.proofs.Places.{doomed_names}
+use Rattle.sweeper.proofs.Left.{in_use_either}
 use Rattle.sweeper.proofs.doomed.Goals as goal
 
 pub returns-clause-doomed : goal.returns-clause-doomed
@@ -31,4 +32,4 @@ returns-clause-names c =
     let cut = c.cut-cut.ensures.cut in
     let settled = subst (λ (k : ClosedParts). settled_image (page_of k.pages page) ≡ Some image) cut c.settled-image.ensures.image in
     let names = subst (λ (k : ClosedParts). HasOneNameEach k.pages) cut c.is_closed.ensures.names in
-    doomed_names (starts_of m.cut) m.cut.pages (marks_of m.marks) page c.doomed_among.result image names c.requires settled c.marks.ensures.exact (returns-clause-doomed c image settled)
+    doomed_names (starts_of m.cut) m.cut.pages (marks_of m.marks) page c.doomed_among.result image names.once c.requires settled c.marks.ensures.exact (returns-clause-doomed c image settled)

@@ -1,9 +1,14 @@
 use Rattle.std.proofs.Common.{◌≡◌, ℕ, ◌+◌, ◌≤◌, List, length, Some, Result, Err, refl, sym, ◌∙◌, ap, subst, arith, inl}
 use Rattle.std.proofs.lemmas.Result.{err_from_is_err_and}
 use Rattle.page_image.specs.Pages.{PageParts}
-use Rattle.redo_journal.specs.Replays.{AreLatest}
+use Rattle.redo_journal.specs.Homes.{store_size}
+use Rattle.redo_journal.specs.Journals.{JournalParts, HoldsFor}
+use Rattle.redo_journal.specs.Record.{RecordParts}
+use Rattle.redo_journal.specs.Replays.{AreLatest, IsReplay}
+use Rattle.redo_journal.specs.declared.replay.Replay.{Replay}
 use Rattle.redo_journal.specs.declared.faults.AreaFault.{AreaFault}
 use Rattle.redo_journal.proofs.HomeMoments.{in_some}
+use Rattle.image_model.specs.Super.{super_of}
 use Rattle.image_model.specs.Opening.{damaged, page_slots, open_of}
 use Rattle.image_model.specs.Stores.{ArePages, IsRooted, HasFaultAt, HasFault}
 use Rattle.recovery.specs.declared.faults.OpenFault.{OpenFault}
@@ -30,6 +35,19 @@ returns-in-Err-clause-bad g c at e =
 long_enough : (need : ℕ) (size : ℕ) (file : List ℕ) → need ≤ size → length file ≡ size → need ≤ length file
 long_enough need size file le is = omega (arith, le, is)
 
+-- what was read of a file so far
+read_from : (count area : ℕ) (journal : JournalParts) (replay : Replay) (file : List ℕ) → super_of file ≡ Some (record { pages = count; area = area }) → store_size count ≤ length file
+    → journal.pages ≡ count → journal.area ≡ area → (records : List RecordParts) × HoldsFor journal records file × IsReplay records replay → IsReadFrom count area journal replay file
+read_from count area journal replay file head long pages_are area_is found = record {
+  head = head;
+  long = long;
+  pages_are = pages_are;
+  area_is = area_is;
+  records = found.0;
+  holds = found.1;
+  replayed = found.2;
+}
+
 pub returns-in-Err-open_area-clause-bad : goal.returns-in-Err-open_area-clause-bad
 returns-in-Err-open_area-clause-bad g c at e =
     let is : c.of_area.result ≡ Damaged at = cc e in
@@ -47,15 +65,8 @@ returns-in_err-pages-clause-bad g c at e =
     let now : g.D.Disk.content c.read_super.new.disk ≡ Some file = c.read_super.ensures.reads.content ∙ told in
     let after : g.D.Disk.content c.open_area.new.disk ≡ Some file = c.open_area.ensures.reads.content ∙ now in
     let found = in_some (g.D.Disk.content c.read_super.new.disk) _ file now c.in-Ok-open_area.ensures.found in
-    let h : IsReadFrom c.in-Ok.found.pages c.in-Ok.found.area c.in-Ok-open_area.opened.0 c.in-Ok-open_area.opened.1 file = record {
-      head = in_some (g.D.Disk.content c.args.disk.now) _ file told c.in-Ok.ensures.found;
-      long = long_enough _ (g.D.Disk.size c.args.disk.now) file c.in-Ok.ensures.long (g.met.D.Disk.told_whole c.args.disk.now file told);
-      pages_are = c.in-Ok-open_area.ensures.asked.1;
-      area_is = c.in-Ok-open_area.ensures.asked.0;
-      records = found.0;
-      holds = found.1;
-      replayed = found.2;
-    } in
+    let h = read_from c.in-Ok.found.pages c.in-Ok.found.area c.in-Ok-open_area.opened.0 c.in-Ok-open_area.opened.1 file (in_some (g.D.Disk.content c.args.disk.now) _ file told c.in-Ok.ensures.found)
+        (long_enough _ (g.D.Disk.size c.args.disk.now) file c.in-Ok.ensures.long (g.met.D.Disk.told_whole c.args.disk.now file told)) c.in-Ok-open_area.ensures.asked.1 c.in-Ok-open_area.ensures.asked.0 found in
     home_wrong c.in-Ok.found.pages c.in-Ok.found.area c.in-Ok-open_area.opened.0 c.in-Ok-open_area.opened.1 file h c.deref.result.now at c.deref.ensures.value
     (in_some (g.D.Disk.content c.open_area.new.disk) _ file after (c.in_err-pages.ensures.bad at (ap (λ (x : OpenFault). Err x) is))))
 
@@ -81,15 +92,8 @@ returns-in-Err-check_pages-clause-bad g c at e =
     let now : g.D.Disk.content c.read_super.new.disk ≡ Some file = c.read_super.ensures.reads.content ∙ told in
     let after : g.D.Disk.content c.open_area.new.disk ≡ Some file = c.open_area.ensures.reads.content ∙ now in
     let found = in_some (g.D.Disk.content c.read_super.new.disk) _ file now c.in-Ok-open_area.ensures.found in
-    let h : IsReadFrom c.in-Ok.found.pages c.in-Ok.found.area c.in-Ok-open_area.opened.0 c.in-Ok-open_area.opened.1 file = record {
-      head = in_some (g.D.Disk.content c.args.disk.now) _ file told c.in-Ok.ensures.found;
-      long = long_enough _ (g.D.Disk.size c.args.disk.now) file c.in-Ok.ensures.long (g.met.D.Disk.told_whole c.args.disk.now file told);
-      pages_are = c.in-Ok-open_area.ensures.asked.1;
-      area_is = c.in-Ok-open_area.ensures.asked.0;
-      records = found.0;
-      holds = found.1;
-      replayed = found.2;
-    } in
+    let h = read_from c.in-Ok.found.pages c.in-Ok.found.area c.in-Ok-open_area.opened.0 c.in-Ok-open_area.opened.1 file (in_some (g.D.Disk.content c.args.disk.now) _ file told c.in-Ok.ensures.found)
+        (long_enough _ (g.D.Disk.size c.args.disk.now) file c.in-Ok.ensures.long (g.met.D.Disk.told_whole c.args.disk.now file told)) c.in-Ok-open_area.ensures.asked.1 c.in-Ok-open_area.ensures.asked.0 found in
     pages_wrong file (record { commits = c.in-Ok-open_area.opened.0.base + c.in-Ok-open_area.opened.0.commits; pages = c.in_ok-pages.pages.items }) at
     (opens_to c.in-Ok.found.pages c.in-Ok.found.area c.in-Ok-open_area.opened.0 c.in-Ok-open_area.opened.1 file h c.deref.result.now c.in_ok-pages.pages.items (c.in-Ok-open_area.opened.0.base + c.in-Ok-open_area.opened.0.commits) c.deref.ensures.value
     (in_some (g.D.Disk.content c.open_area.new.disk) _ file after c.in_ok-pages.ensures.read) refl)
@@ -101,15 +105,8 @@ returns-clause-store g c =
     let now : g.D.Disk.content c.read_super.new.disk ≡ Some file = c.read_super.ensures.reads.content ∙ told in
     let after : g.D.Disk.content c.open_area.new.disk ≡ Some file = c.open_area.ensures.reads.content ∙ now in
     let found = in_some (g.D.Disk.content c.read_super.new.disk) _ file now c.in-Ok-open_area.ensures.found in
-    let h : IsReadFrom c.in-Ok.found.pages c.in-Ok.found.area c.in-Ok-open_area.opened.0 c.in-Ok-open_area.opened.1 file = record {
-      head = in_some (g.D.Disk.content c.args.disk.now) _ file told c.in-Ok.ensures.found;
-      long = long_enough _ (g.D.Disk.size c.args.disk.now) file c.in-Ok.ensures.long (g.met.D.Disk.told_whole c.args.disk.now file told);
-      pages_are = c.in-Ok-open_area.ensures.asked.1;
-      area_is = c.in-Ok-open_area.ensures.asked.0;
-      records = found.0;
-      holds = found.1;
-      replayed = found.2;
-    } in
+    let h = read_from c.in-Ok.found.pages c.in-Ok.found.area c.in-Ok-open_area.opened.0 c.in-Ok-open_area.opened.1 file (in_some (g.D.Disk.content c.args.disk.now) _ file told c.in-Ok.ensures.found)
+        (long_enough _ (g.D.Disk.size c.args.disk.now) file c.in-Ok.ensures.long (g.met.D.Disk.told_whole c.args.disk.now file told)) c.in-Ok-open_area.ensures.asked.1 c.in-Ok-open_area.ensures.asked.0 found in
     record {
       opens = opens_to c.in-Ok.found.pages c.in-Ok.found.area c.in-Ok-open_area.opened.0 c.in-Ok-open_area.opened.1 file h c.deref.result.now c.in_ok-pages.pages.items _ c.deref.ensures.value
           (in_some (g.D.Disk.content c.open_area.new.disk) _ file after c.in_ok-pages.ensures.read) (ap (λ (n : ℕ). n + c.commits.result) c.base.ensures ∙ ap (λ (n : ℕ). c.in-Ok-open_area.opened.0.base + n) c.commits.ensures.value);
