@@ -1,10 +1,15 @@
 //! A collection over a store in memory, call by call.
-ghost use Rattle.std.specs.Prelude.{◌≡◌, ◌<◌};
+ghost use Rattle.std.specs.Prelude.{◌≡◌, ◌<◌, ℕ, List, IfOk, IfSome};
+ghost use Rattle.cut_model.specs.CutPages.{CutPage};
+ghost use Rattle.cut_core.specs.Given.{HasGiven};
+ghost use Rattle.cut_core.specs.Starts.{IsJustOpened};
 
 use crate::{Machine, collection_call};
+use cut_builder::ClosedCut;
 use cut_core::Core;
-use disk_trait::MemDisk;
-use object_graph::{Call, Memory, Reply, SlotSet, Steps};
+use disk_trait::{MemDisk, OpenGate};
+use mark_pool::mark;
+use object_graph::{Call, Memory, Refusal, Reply, SlotSet, Steps};
 use recovery::make;
 use std::alloc::Global;
 use std::marker::Brand;
@@ -16,16 +21,23 @@ use std::thread::Threads;
 /// The bytes of a store of two pages.
 const TWO_PAGES: u64 = 527_360;
 
-/// A machine over a fresh store of two pages.
-fn fresh(alloc: Global) -> Result<Machine<MemDisk>, Memory> {
+/// A core over a fresh store of two pages.
+fn fresh_core(alloc: Global) -> Result<Core<MemDisk>, Memory>
+    ensures { IfOk result (λ core. IsJustOpened core.world) }
+{
     let mut disk = MemDisk::new(alloc, TWO_PAGES, Vec::new(alloc))?;
     let Ok(()) = make(alloc, &mut disk, 2) else {
         return Err(Memory);
     };
     match Core::start(alloc, disk) {
-        Ok(core) => Ok(Machine::of(alloc, core)),
+        Ok(core) => Ok(core),
         Err((_, _)) => Err(Memory),
     }
+}
+
+/// A machine over it.
+fn fresh(alloc: Global) -> Result<Machine<MemDisk>, Memory> {
+    Ok(Machine::of(alloc, fresh_core(alloc)?))
 }
 
 #[test]
@@ -95,5 +107,48 @@ fn a_store_without_garbage_is_collected(rt: HostRuntime) -> Result<(), Fail> {
         Reply::Done,
     ];
     assert!(rt; are_answered::<_, Brand>(&rt, &mut machine, &replies, Blank::new(1)));
+    Ok(())
+}
+
+/// Opens a cut of two pages, copies them and closes it.
+fn closed_cut<L: Ledger>(core: &mut Core<MemDisk>, steps: &mut Steps<L>) -> Option<ClosedCut>
+    ensures gives { IfSome result (λ cut. HasGiven core.new.world core.new.beside cut.number cut.pages) }
+    ensures given { (number : ℕ) (pages : List CutPage) → HasGiven core.old.world core.old.beside number pages → HasGiven core.new.world core.new.beside number pages }
+{
+    core.call(Call::OpenCut, steps);
+    core.call(Call::Copy { page: 0 }, steps);
+    core.call(Call::Copy { page: 1 }, steps);
+    core.close_cut().ok()
+}
+
+/// Why the marks of a first cut aren't taken while a second one is closed.
+fn late_marks<T: Threads + Sync, L: Ledger>(
+    threads: &T,
+    alloc: Global,
+    core: &mut Core<MemDisk>,
+    blank: Blank,
+) -> Option<Refusal>
+    requires name { blank.name ≡ L.name }
+    requires parts { blank.parts ≡ L.parts }
+    requires some { 0 < blank.parts }
+{
+    let mut steps: Steps<L> = Steps::new(blank);
+    let first = closed_cut(core, &mut steps)?;
+    let Ok(marked) = mark(threads, alloc, &OpenGate, first, 2) else {
+        return None;
+    };
+    core.call(Call::DropCut, &mut steps);
+    closed_cut(core, &mut steps)?;
+    match core.give_marks(marked) {
+        Ok(()) => None,
+        Err((_, why)) => Some(why),
+    }
+}
+
+#[test]
+fn marks_of_an_earlier_cut_come_back(rt: HostRuntime) -> Result<(), Fail> {
+    let mut core = fresh_core(rt.alloc())?;
+    let why = late_marks::<_, Brand>(&rt, rt.alloc(), &mut core, Blank::new(1));
+    assert!(rt; why == Some(Refusal::OtherCut { now: 2 }));
     Ok(())
 }
