@@ -17,7 +17,7 @@ use Rattle.store_run.specs.Ran.{EndsLine, OpensTo}
 use Rattle.store_run.specs.declared.pieces.TheConstants.{SCRIPT_LIMIT}
 use Rattle.store_run.specs.declared.status.Status.{Status}
 use Rattle.store_run.specs.declared.status.Status.TheVariants.{Done, BadLine, TooLong, ReadFault, WriteFault, DiskFault, NotAStore, Damaged, Memory}
-use Rattle.store_run.proofs.Completes.{TakenOf, taken_of, nothing_left, whole_front, goes_on, whole_text, no_more, HasNoFault, told_no_fault}
+use Rattle.store_run.proofs.Completes.{TakenOf, taken_of, meets_line, nothing_left, whole_front, goes_on, whole_text, no_more, HasNoFault, told_no_fault}
 use Rattle.lanes_run.specs.Asked.{entries_asked}
 use Rattle.lanes_run.specs.Complete.{IsLaneScript}
 use Rattle.lanes_run.specs.Judged.{HasBadLine, GoBeyond, AskTooMuch}
@@ -37,22 +37,9 @@ says pages script good bad later s e = said_at good bad later s.said (subst (λ 
 
 no_bad_line : (pages : ℕ) (script taken : List ℕ) (left : Option (List ℕ)) (said : List LaneLine) (line column : ℕ) → IsLaneScript pages script → TakenOf script left taken → HasBadLine taken left said line column → ⊥
 no_bad_line pages script taken left said line column s t f =
-    let whole = whole_text script taken f.front f.rest t.rest t.whole f.split in
-    ⊎_elim
-    (λ (ends : EndsLine f.front f.rest left). ⊎_elim
-    (λ w.
-    let x = says pages script f.good f.bad (lines_of (f.rest ++ t.rest)) s
-    (ap lines_of whole ∙ (whole_front f.front (f.rest ++ t.rest) w ∙ (ap (λ x. x ++ lines_of (f.rest ++ t.rest)) f.lines ∙ append_assoc f.good (f.bad ∷ []) (lines_of (f.rest ++ t.rest))))) in
-    f.is_bad.outside x.0 x.1)
-    (λ e.
-    let x = says pages script f.good f.bad [] s (ap lines_of (whole ∙ no_more f.front f.rest t.rest e.0 (nothing_left script taken left t e.1)) ∙ f.lines) in
-    f.is_bad.outside x.0 x.1) ends)
-    (λ long.
-    let g = goes_on f.front (f.rest ++ t.rest) f.good f.bad f.lines in
-    let x = says pages script f.good (f.bad ++ g.more) g.later s (ap lines_of whole ∙ g.is) in
-    let len : LINE_LIMIT < length (f.bad ++ g.more) = omega (arith, length-append f.bad g.more, long.1) in
-    (long_bad (f.bad ++ g.more) len).outside x.0 x.1)
-    f.judged
+    let m = meets_line script taken left f.good f.bad line t f.stops in
+    let x = says pages script f.good m.0 m.1 s m.2 in
+    ⊎_elim (λ same. f.is_bad.outside x.0 (subst (λ bytes. SaysInLane bytes x.0.lane x.0.line) same x.1)) (λ long. (long_bad m.0 long).outside x.0 x.1) m.3
 
 -- ---- it isn't too long
 

@@ -197,16 +197,18 @@ piece_bad pages a b bytes ahead taken tally line column x p =
         within = omega (arith, x.len, x.within);
         good = x.lines ++ p.good;
         bad = p.bad;
-        front = x.read ++ p.front;
-        rest = p.rest;
-        split = joined bytes x.read ahead p.front p.rest x.split p.whole;
-        lines = x.are.lines_then p.front ∙ (ap (λ l. x.lines ++ l) p.lines ∙ sym (append_assoc x.lines p.good (p.bad ∷ [])));
-        soon = ⊎_elim (λ w. soon (λ none. not_none p.good p.bad (sym w ∙ none))) (λ l. subst (λ (r : List ℕ). length r < PIECE_LIMIT) (sym l.0) (omega arith)) p.judged;
-        early = omega (arith, p.within, ap length x.joins, length-append x.old x.more, x.short, x.few);
-        judged = ⊎_elim (λ w. inl (inl (x.are.whole_then p.front ∙ (ap (λ l. x.lines ++ l) (w ∙ sym p.lines) ∙ sym (x.are.lines_then p.front))))) (λ l. inr l) p.judged;
+        stops = record {
+          front = x.read ++ p.front;
+          rest = p.rest;
+          split = joined bytes x.read ahead p.front p.rest x.split p.whole;
+          lines = x.are.lines_then p.front ∙ (ap (λ l. x.lines ++ l) p.lines ∙ sym (append_assoc x.lines p.good (p.bad ∷ [])));
+          soon = ⊎_elim (λ w. soon (λ none. not_none p.good p.bad (sym w ∙ none))) (λ l. subst (λ (r : List ℕ). length r < PIECE_LIMIT) (sym l.0) (omega arith)) p.judged;
+          early = omega (arith, p.within, ap length x.joins, length-append x.old x.more, x.short, x.few);
+          judged = ⊎_elim (λ w. inl (inl (x.are.whole_then p.front ∙ (ap (λ l. x.lines ++ l) (w ∙ sym p.lines) ∙ sym (x.are.lines_then p.front))))) (λ l. inr l) p.judged;
+          line_is = omega (arith, p.line_is, x.lines_is, length-append x.lines p.good);
+        };
         says = say_join x.lines p.good x.said p.said x.says p.says;
         is_bad = p.is_bad;
-        line_is = omega (arith, p.line_is, x.lines_is, length-append x.lines p.good);
       };
     }
 
@@ -267,16 +269,18 @@ end_bad pages a b bytes ahead taken tally line column x end p = record {
     within = omega (arith, x.len, x.within);
     good = x.lines;
     bad = ahead;
-    front = bytes;
-    rest = [];
-    split = sym (append-nil bytes);
-    lines = ap lines_of x.split ∙ (x.are.lines_then ahead ∙ ap (λ l. x.lines ++ l) p.one);
-    soon = omega arith;
-    early = omega (arith, x.short);
-    judged = inl (inr (refl, end));
+    stops = record {
+      front = bytes;
+      rest = [];
+      split = sym (append-nil bytes);
+      lines = ap lines_of x.split ∙ (x.are.lines_then ahead ∙ ap (λ l. x.lines ++ l) p.one);
+      soon = omega arith;
+      early = omega (arith, x.short);
+      judged = inl (inr (refl, end));
+      line_is = omega (arith, p.line_is, x.lines_is);
+    };
     says = x.says;
     is_bad = p.is_bad;
-    line_is = omega (arith, p.line_is, x.lines_is);
   };
 }
 

@@ -8,7 +8,7 @@ use Rattle.script_lang.specs.Script.{lines_of, SaysInLane, InLanes, IsBadAt}
 use Rattle.script_lang.specs.Words.{Without}
 use Rattle.store_lanes.specs.LaneScripts.{SayInLanes}
 use Rattle.store_run.specs.Pieces.{whole_lines}
-use Rattle.store_run.specs.Ran.{EndsLine}
+use Rattle.store_run.specs.Ran.{StopsAtLine}
 use Rattle.store_run.specs.declared.pieces.TheConstants.{SCRIPT_LIMIT, PIECE_LIMIT}
 use Rattle.store_run.specs.declared.status.Status.{Status}
 use Rattle.store_run.specs.declared.status.Status.TheVariants.{BadLine, TooLong, ReadFault, Memory}
@@ -20,22 +20,14 @@ pub record IsBadInLanes (bytes : List ℕ) (column : ℕ) : Type 0 where
   pub outside : (s : LaneLine) → SaysInLane bytes s.lane s.line → ⊥
   pub wrong_at : IsBadAt InLanes bytes column
 
--- The lines before a first bad one say this. It is bad as it stands in what was taken: whole, too long already, or the last. Less than a piece
--- was taken after it, and after the byte with which it is too long.
+-- the lines before a first bad one say this
 pub record HasBadLine (taken : List ℕ) (left : Option (List ℕ)) (said : List LaneLine) (line column : ℕ) : Type 0 where
   pub within : length taken ≤ SCRIPT_LIMIT
   pub good : List (List ℕ)
   pub bad : List ℕ
-  pub front : List ℕ
-  pub rest : List ℕ
-  pub split : taken ≡ front ++ rest
-  pub lines : lines_of front ≡ good ++ bad ∷ []
-  pub soon : length rest < PIECE_LIMIT
-  pub early : length bad ≤ LINE_LIMIT + PIECE_LIMIT
-  pub judged : EndsLine front rest left ⊎ ((rest ≡ []) × (LINE_LIMIT < length bad))
+  pub stops : StopsAtLine taken left good bad line
   pub says : SayInLanes good said
   pub is_bad : IsBadInLanes bad column
-  pub line_is : line ≡ length good + 1
 
 -- No bad line counts among these bytes: the whole lines say this, and what stands behind them isn't too long for a line.
 pub record AreGoodSoFar (bytes : List ℕ) (said : List LaneLine) : Type 0 where

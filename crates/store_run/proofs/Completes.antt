@@ -1,6 +1,6 @@
 -- A script in the grammar is run to its end where nothing fails.
 use Rattle.std.proofs.Common.{◌≡◌, refl, sym, ap, ◌∙◌, subst, ℕ, ◌+◌, ◌<◌, inl, inr, ⊎_elim, Bool, true, false, List, [], ◌∷◌, ◌++◌, length, Option, Some, None, append_assoc, append-nil, arith, length-append, nat_eq, if◌then◌else◌}
-use Rattle.std.specs.Prelude.{IfSome}
+use Rattle.std.specs.Prelude.{◌⊎◌, IfSome}
 use Rattle.std.specs.Io.KnownBytes.{Consumes, IsAtEnd}
 use Rattle.disk_trait.specs.declared.disk.Disk.{Ghosts as DiskOf}
 use Rattle.disk_trait.specs.Causes.{Rose}
@@ -14,7 +14,7 @@ use Rattle.store_run.specs.Complete.{IsScript, IsDoneOrMemory}
 use Rattle.store_run.specs.Following.{SayInTurn}
 use Rattle.store_run.specs.Pieces.{whole_lines, onto_whole}
 use Rattle.store_run.specs.declared.pieces.TheConstants.{SCRIPT_LIMIT}
-use Rattle.store_run.specs.Ran.{Ran, RunBy, FollowsToBad, EndsLine}
+use Rattle.store_run.specs.Ran.{Ran, RunBy, FollowsToBad, StopsAtLine, EndsLine}
 use Rattle.store_run.specs.declared.status.Status.{Status}
 use Rattle.store_run.specs.declared.status.Status.TheVariants.{Done, BadLine, TooLong, ReadFault, WriteFault, DiskFault, NotAStore, Damaged, Memory}
 use Rattle.store_run.proofs.WholeLines.{too_long}
@@ -135,25 +135,28 @@ whole_text script taken front rest behind s t = s ∙ (ap (λ x. x ++ behind) t 
 pub no_more : (front rest behind : List ℕ) → rest ≡ [] → behind ≡ [] → front ++ (rest ++ behind) ≡ front
 no_more front rest behind r b = ap (λ x. front ++ (x ++ behind)) r ∙ (ap (λ x. front ++ x) b ∙ append-nil front)
 
-no_bad_line : (pages : ℕ) (script taken : List ℕ) (left : Option (List ℕ)) (history : List Event) (line column : ℕ) → IsScript script → TakenOf script left taken
-    → FollowsToBad pages taken left history line column → ⊥
-no_bad_line pages script taken left history line column s t f =
+-- the line that is judged is one of the script, or the beginning of one that is too long
+pub meets_line : (script taken : List ℕ) (left : Option (List ℕ)) (good : List (List ℕ)) (bad : List ℕ) (line : ℕ) → TakenOf script left taken → StopsAtLine taken left good bad line
+    → (found : List ℕ) × (later : List (List ℕ)) × (lines_of script ≡ good ++ found ∷ later) × ((found ≡ bad) ⊎ (LINE_LIMIT < length found))
+meets_line script taken left good bad line t f =
     let whole = whole_text script taken f.front f.rest t.rest t.whole f.split in
     ⊎_elim
     (λ (ends : EndsLine f.front f.rest left). ⊎_elim
     (λ w.
-    let said = says script f.good f.bad (lines_of (f.rest ++ t.rest)) s
-    (ap lines_of whole ∙ (whole_front f.front (f.rest ++ t.rest) w ∙ (ap (λ x. x ++ lines_of (f.rest ++ t.rest)) f.lines ∙ append_assoc f.good (f.bad ∷ []) (lines_of (f.rest ++ t.rest))))) in
-    f.is_bad.outside said.0 said.1)
-    (λ e.
-    let said = says script f.good f.bad [] s (ap lines_of (whole ∙ no_more f.front f.rest t.rest e.0 (nothing_left script taken left t e.1)) ∙ f.lines) in
-    f.is_bad.outside said.0 said.1) ends)
+    let behind : List (List ℕ) = lines_of (f.rest ++ t.rest) in
+    (bad, behind, ap lines_of whole ∙ (whole_front f.front (f.rest ++ t.rest) w ∙ (ap (λ x. x ++ behind) f.lines ∙ append_assoc good (bad ∷ []) behind)), inl refl))
+    (λ e. (bad, [], ap lines_of (whole ∙ no_more f.front f.rest t.rest e.0 (nothing_left script taken left t e.1)) ∙ f.lines, inl refl)) ends)
     (λ long.
-    let g = goes_on f.front (f.rest ++ t.rest) f.good f.bad f.lines in
-    let said = says script f.good (f.bad ++ g.more) g.later s (ap lines_of whole ∙ g.is) in
-    let len : LINE_LIMIT < length (f.bad ++ g.more) = omega (arith, length-append f.bad g.more, long.1) in
-    too_long (f.bad ++ g.more) len said.0 said.1)
+    let g = goes_on f.front (f.rest ++ t.rest) good bad f.lines in
+    (bad ++ g.more, g.later, ap lines_of whole ∙ g.is, inr (omega (arith, length-append bad g.more, long.1))))
     f.judged
+
+no_bad_line : (pages : ℕ) (script taken : List ℕ) (left : Option (List ℕ)) (history : List Event) (line column : ℕ) → IsScript script → TakenOf script left taken
+    → FollowsToBad pages taken left history line column → ⊥
+no_bad_line pages script taken left history line column s t f =
+    let m = meets_line script taken left f.good f.bad line t f.stops in
+    let said = says script f.good m.0 m.1 s m.2 in
+    ⊎_elim (λ same. f.is_bad.outside said.0 (subst (λ bytes. Says bytes said.0) same said.1)) (λ long. too_long m.0 long said.0 said.1) m.3
 
 not_too_long : (script taken : List ℕ) (left : Option (List ℕ)) → IsScript script → TakenOf script left taken → length taken ≡ SCRIPT_LIMIT + 1 → ⊥
 not_too_long script taken left s t len =

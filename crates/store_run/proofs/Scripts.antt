@@ -218,16 +218,18 @@ module _ {D : Type 0} (disks : DiskOf D) where
         follows = record {
           good = x.lines ++ p.good;
           bad = p.bad;
-          front = x.read ++ p.front;
-          rest = p.rest;
-          split = joined x.read bytes p.front p.rest p.whole;
-          lines = lines_with x.read p.front x.lines p.good p.bad x.are p.lines;
-          soon = ⊎_elim (λ w. soon start core a b h i bytes p.front p.rest taken number x p.whole (λ none. not_none p.good p.bad (sym w ∙ none)))
-              (λ l. subst (λ (r : List ℕ). length r < PIECE_LIMIT) (sym l.0) (omega arith)) p.judged;
-          early = early start core a b h i bytes taken number p.bad x p.within;
-          judged = ⊎_elim (λ w. inl (ends_line x.read p.front p.rest x.lines (p.good ++ p.bad ∷ []) b x.are w p.lines)) (λ l. inr l) p.judged;
+          stops = record {
+            front = x.read ++ p.front;
+            rest = p.rest;
+            split = joined x.read bytes p.front p.rest p.whole;
+            lines = lines_with x.read p.front x.lines p.good p.bad x.are p.lines;
+            soon = ⊎_elim (λ w. soon start core a b h i bytes p.front p.rest taken number x p.whole (λ none. not_none p.good p.bad (sym w ∙ none)))
+                (λ l. subst (λ (r : List ℕ). length r < PIECE_LIMIT) (sym l.0) (omega arith)) p.judged;
+            early = early start core a b h i bytes taken number p.bad x p.within;
+            judged = ⊎_elim (λ w. inl (ends_line x.read p.front p.rest x.lines (p.good ++ p.bad ∷ []) b x.are w p.lines)) (λ l. inr l) p.judged;
+            line_is = omega (arith, p.line_is, x.number_is, length-append x.lines p.good);
+          };
           is_bad = p.is_bad;
-          line_is = omega (arith, p.line_is, x.number_is, length-append x.lines p.good);
           follows = done.follows;
         };
         written = done.written;
@@ -361,15 +363,17 @@ module _ {D : Type 0} (disks : DiskOf D) where
         follows = record {
           good = x.going.lines;
           bad = ahead;
-          front = x.going.read ++ ahead;
-          rest = [];
-          split = sym (append-nil (x.going.read ++ ahead));
-          lines = x.going.are.lines_then ahead ∙ ap (λ l. x.going.lines ++ l) p.0;
-          soon = omega arith;
-          early = omega (arith, x.going.short);
-          judged = inl (inr (refl, x.at_end));
+          stops = record {
+            front = x.going.read ++ ahead;
+            rest = [];
+            split = sym (append-nil (x.going.read ++ ahead));
+            lines = x.going.are.lines_then ahead ∙ ap (λ l. x.going.lines ++ l) p.0;
+            soon = omega arith;
+            early = omega (arith, x.going.short);
+            judged = inl (inr (refl, x.at_end));
+            line_is = omega (arith, p.1.line_is, x.going.number_is);
+          };
           is_bad = p.1.is_bad;
-          line_is = omega (arith, p.1.line_is, x.going.number_is);
           follows = done.follows;
         };
         written = done.written;
