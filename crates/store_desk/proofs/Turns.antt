@@ -11,7 +11,7 @@ use Rattle.cut_builder.specs.CutParts.{ClosedParts, MarkedParts}
 use Rattle.cut_core.specs.Seen.{Seen}
 use Rattle.turn_lock.specs.Lists.{StartsWith, places}
 use Rattle.turn_lock.specs.Seats.{Finds, grown}
-use Rattle.turn_lock.proofs.Sums.{starts_on}
+use Rattle.turn_lock.proofs.Lists.{starts_on}
 use Rattle.store_desk.specs.Appended.{Appended, Did, DidClose, DidMark, IsOf, IsClosingOf, IsMarkingOf}
 use Rattle.store_desk.specs.Chronicles.{IsKnown, IsChronicle}
 use Rattle.store_desk.specs.Events.{history, HasClosing}

@@ -24,7 +24,7 @@ use Rattle.cut_core.specs.Given.{IsCutOf}
 use Rattle.cut_core.specs.Seen.{Seen}
 use Rattle.script_lang.specs.declared.line.Line.{Line}
 use Rattle.turn_lock.specs.Lists.{StartsWith}
-use Rattle.turn_lock.proofs.Sums.{starts_on}
+use Rattle.turn_lock.proofs.Lists.{starts_on}
 use Rattle.store_desk.specs.Appended.{IsOf, IsClosingOf, IsMarkingOf, marked_number}
 use Rattle.store_desk.specs.Chronicles.{IsKnown, IsChronicle, KeepCuts}
 use Rattle.store_desk.specs.Events.{note_in, told, history}

@@ -8,7 +8,7 @@ use Rattle.store_model.specs.Steps.{next}
 use Rattle.store_model.specs.Histories.{after}
 use Rattle.store_model.specs.Lanes.{Moment, moments, moments_of_lane}
 use Rattle.turn_lock.specs.Lists.{StartsWith, AreOfOne, longer, times, places}
-use Rattle.turn_lock.proofs.Sums.{longer_is}
+use Rattle.turn_lock.proofs.Lists.{longer_is}
 use Rattle.store_lanes.specs.Owned.{has, part, OwnsLanes}
 
 -- moments
