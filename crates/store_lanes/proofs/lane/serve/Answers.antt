@@ -22,4 +22,4 @@ returns-clause-served g c =
           (subst (λ (r : Result Bool Memory). PartRan g.D.Disk first c.args.lane (collection first.world.pages w.in-Collect.workers) old new r) (sym w.ran-is)
           (subst (λ (s : AtDesk g.row.D.Denot). PartRan g.D.Disk first c.args.lane (collection first.world.pages w.in-Collect.workers) old s w.collect-ran.result) (sym w.seat-is) w.collect-ran.ensures.ran))
     ] in
-    subst (λ (r : Result Bool Memory). LineServed g.D.Disk first c.args.lane c.args.line old new (without_bool r)) (sym c.without_value.ensures) all
+    subst (λ (r : Result (Unit {0}) Memory). LineServed g.D.Disk first c.args.lane c.args.line old new r) (sym c.without_value.ensures) all
