@@ -12,9 +12,9 @@ use Rattle.page_image.specs.Pages.{PageParts}
 use Rattle.page_buffer.specs.Frames.{frame_at}
 use Rattle.store_model.specs.Worlds.{World, transaction, view}
 use Rattle.transactions.specs.Standing.{TransactionsParts, IsReady, image_in}
-use Rattle.transactions.specs.Tables.{entry_of, written_at}
+use Rattle.transactions.specs.Tables.{entry_of, pages_in, written_at}
 use Rattle.transactions.proofs.Opened.{opened}
-use Rattle.cut_core.specs.Writing.{pages_in, images_written}
+use Rattle.cut_core.specs.Writing.{images_written}
 use Rattle.cut_core.proofs.Staging.{none_left, entry_found, page_seen, has_there}
 use Rattle.std.proofs.Common.{inl, inr, ◌==◌}
 use Rattle.std.specs.List.{AllByRecursion}

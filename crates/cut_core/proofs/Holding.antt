@@ -72,11 +72,10 @@ use Rattle.cut_model.specs.Changes.{IsCutAfter}
 use Rattle.cut_model.specs.CutPages.{with_commit}
 use Rattle.cut_model.specs.Standing.{TurnsIn, TurnsOf, TurnsBeside}
 use Rattle.cut_model.proofs.Turning.{turns_commit}
-use Rattle.transactions.specs.Tables.{entry_of}
+use Rattle.transactions.specs.Tables.{entry_of, pages_in}
 use Rattle.transactions.proofs.Begins.{opened_there}
 use Rattle.transactions.proofs.Numbers.{transaction_found}
 use Rattle.transactions.proofs.Opened.{opened}
-use Rattle.cut_core.specs.Writing.{pages_in}
 use Rattle.cut_core.specs.Holding.{AddsFrame, IsGivenUpTo}
 use Rattle.cut_core.proofs.Staging.{entry_there}
 use Rattle.cut_core.proofs.Standing.{none_first}

@@ -16,11 +16,11 @@ use Rattle.store_model.specs.Worlds.{World, Transaction, transaction, view}
 use Rattle.store_model.specs.Causes.{has_page}
 use Rattle.store_model.specs.Images.{shown_in}
 use Rattle.image_model.specs.Records.{AreOfCommit, commit_record}
-use Rattle.transactions.specs.Tables.{OpenParts, entry_of, written_at, IsAscending}
+use Rattle.transactions.specs.Tables.{OpenParts, entry_of, pages_in, written_at, IsAscending}
 use Rattle.transactions.specs.Standing.{TransactionsParts, IsReady, IsReadyForSome, image_in, wrote}
 use Rattle.transactions.proofs.Numbers.{transaction_found}
 use Rattle.transactions.proofs.Opened.{IsOpened, opened, wrote_within}
-use Rattle.cut_core.specs.Writing.{images_written, pages_in}
+use Rattle.cut_core.specs.Writing.{images_written}
 
 -- ---- lists
 

@@ -1,12 +1,12 @@
 -- Records that are written, and the state for which the disk stands.
-use Rattle.std.specs.Prelude.{◌⊎◌, ℕ, List, [], map, Option, Some, None}
+use Rattle.std.specs.Prelude.{◌⊎◌, ℕ, List, map}
 use Rattle.disk_trait.specs.Disk.{Only}
 use Rattle.page_image.specs.Pages.{PageParts}
 use Rattle.page_buffer.specs.Frames.{frame_at}
 use Rattle.redo_journal.specs.Journals.{JournalParts}
 use Rattle.store_model.specs.States.{State}
 use Rattle.image_model.specs.Stands.{StandsFor, IsStoreOf}
-use Rattle.transactions.specs.Tables.{OpenParts, entry_of}
+use Rattle.transactions.specs.Tables.{entry_of, pages_in}
 use Rattle.transactions.specs.Standing.{TransactionsParts}
 
 -- ---- the disk
@@ -22,10 +22,6 @@ abbrev pub StandsForOneOf : ℕ → State → State → List ℕ → Type 0
 StandsForOneOf pages s t file = StandsFor file pages s ⊎ StandsFor file pages t
 
 -- ---- the pages of a commit
-
-abbrev pub pages_in : Option OpenParts → List ℕ
-pages_in None = []
-pages_in (Some entry) = entry.written
 
 -- the pages that a transaction wrote, as it sees them
 abbrev pub images_written : TransactionsParts → ℕ → List PageParts

@@ -1,12 +1,15 @@
 -- What a call's answer says.
-use Rattle.std.specs.Prelude.{ℕ, IsTrue}
+use Rattle.std.specs.Prelude.{◌≡◌, ℕ, ◌<◌, false, List, length, IsTrue}
 use Rattle.object_graph.specs.Graphs.{has_name}
 use Rattle.object_graph.specs.NameParts.{NameParts}
 use Rattle.object_graph.specs.declared.calls.Call.{Call}
 use Rattle.object_graph.specs.declared.calls.Reply.{Reply}
+use Rattle.store_model.specs.Causes.{has_page}
 use Rattle.store_model.specs.Worlds.{World, nothing, IsOutOfReach}
 use Rattle.store_model.specs.Replies.{AllowsReply, names_in}
 use Rattle.store_model.specs.Steps.{after_reply}
+use Rattle.page_buffer.specs.Frames.{frame_at}
+use Rattle.page_buffer.specs.declared.frame.Frame.{Frame}
 use Rattle.transactions.specs.Standing.{TransactionsParts, IsReady, Stands}
 
 -- the reply is allowed, and the transactions stand for the next world
@@ -17,6 +20,12 @@ pub record Answers (new : TransactionsParts) (w : World) (call : Call) (reply : 
 -- so it is for each world for which they are ready
 abbrev pub StepsWell : TransactionsParts → TransactionsParts → Call → Reply → Type 0
 StepsWell old new call reply = (w : World) → IsReady old w → Answers new w call reply
+
+-- these are pages of the store, and the frame of every other page is as it was
+pub record ChangesFramesOf (pages : List ℕ) (old new : List Frame) : Type 0 where
+  pub count : length new ≡ length old
+  pub within : (page : ℕ) → IsTrue (has_page pages page) → page < length old
+  pub others : (page : ℕ) → has_page pages page ≡ false → frame_at new page ≡ frame_at old page
 
 -- nothing leads to the names in these slots of a page
 abbrev pub AreOutOfReach : World → ℕ → ℕ → Type 0

@@ -35,6 +35,11 @@ pub record IsPlaceFor (page at : ℕ) (pages : List ℕ) : Type 0 where
   pub below : (i : ℕ) → i < at → slice_index pages i < page
   pub above : (i : ℕ) → at ≤ i → i < length pages → page < slice_index pages i
 
+-- the pages that a transaction wrote, where it has an entry
+abbrev pub pages_in : Option OpenParts → List ℕ
+pages_in None = []
+pages_in (Some entry) = entry.written
+
 -- the written page at a place
 abbrev pub written_at : Entries → ℕ → ℕ → Option ℕ
 written_at table txn at = option_and_then (λ e. slice_get e.written at) (entry_of table txn)

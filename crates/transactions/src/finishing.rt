@@ -1,5 +1,5 @@
 //! The end of a transaction.
-ghost use Rattle.std.specs.Prelude.{◌≡◌, ℕ, ◌<◌, true, not, nat_eq, filter, is_some, OnErr, length, if◌then◌else◌};
+ghost use Rattle.std.specs.Prelude.{◌≡◌, ℕ, ◌<◌, true, not, nat_eq, filter, is_some, OnOk, OnErr, length, if◌then◌else◌};
 ghost use Rattle.object_graph.specs.declared.calls.Call.TheVariants.{Abort};
 ghost use Rattle.object_graph.specs.Replies.{done_reply};
 ghost use Rattle.store_model.specs.Worlds.{World};
@@ -7,9 +7,9 @@ ghost use Rattle.store_model.specs.Causes.{has_page};
 ghost use Rattle.store_model.specs.Steps.{committed};
 ghost use Rattle.page_buffer.specs.Frames.{frame_at, settled, reverted};
 ghost use Rattle.page_locks.specs.Holding.{Releases};
-ghost use Rattle.transactions.specs.Tables.{entry_of};
+ghost use Rattle.transactions.specs.Tables.{entry_of, pages_in};
 ghost use Rattle.transactions.specs.Standing.{IsReady, IsReadyForSome, Stands};
-ghost use Rattle.transactions.specs.Calls.{StepsWell};
+ghost use Rattle.transactions.specs.Calls.{StepsWell, ChangesFramesOf};
 
 use crate::transactions::Transactions;
 use object_graph::Refusal;
@@ -44,6 +44,7 @@ impl Transactions {
         requires { IsReadyForSome self.old }
         ensures steps { StepsWell self.old self.new (Abort txn) (done_reply result) }
         ensures unchanged { OnErr result (self.new ≡ self.old) }
+        ensures frames { OnOk result (ChangesFramesOf (pages_in (entry_of self.old.table txn)) self.old.frames self.new.frames) }
     {
         let Some(entry) = self.table.find(txn) else {
             return Err(Refusal::NotOpen);
@@ -58,6 +59,7 @@ impl Transactions {
         requires ready { IsReadyForSome self.old }
         requires is_open { is_some (entry_of self.old.table txn) ≡ true }
         ensures committed { (w : World) → IsReady self.old w → Stands self.new (committed w txn) }
+        ensures frames { ChangesFramesOf (pages_in (entry_of self.old.table txn)) self.old.frames self.new.frames }
     {
         let Some(entry) = self.table.find(txn) else {
             unreachable!();

@@ -36,6 +36,7 @@ impl Transactions {
         requires { IsReadyForSome self.old }
         ensures steps { StepsWell self.old self.new (Get txn name field) (ref_reply result) }
         ensures unchanged { OnErr result (self.new ≡ self.old) }
+        ensures frames { self.new.frames ≡ self.old.frames }
         ensures ticks { steps.new ≤ steps.old + 1 }
     {
         let Some(entry) = self.table.find(txn) else {
@@ -75,6 +76,7 @@ impl Transactions {
         requires { IsReadyForSome self.old }
         ensures steps { StepsWell self.old self.new (Number txn name) (num_reply result) }
         ensures unchanged { OnErr result (self.new ≡ self.old) }
+        ensures frames { self.new.frames ≡ self.old.frames }
         ensures ticks { steps.new ≤ steps.old + 1 }
     {
         let Some(entry) = self.table.find(txn) else {

@@ -9,7 +9,7 @@ ghost use Rattle.store_model.specs.FromImages.{world_of, has_root, IsWhole};
 ghost use Rattle.store_model.specs.Steps.{swept};
 ghost use Rattle.page_image.specs.Pages.{IsPage, slot_at};
 ghost use Rattle.page_buffer.specs.Frames.{frame_at, with_frame, freed_frame};
-ghost use Rattle.transactions.specs.Tables.{entry_of, written_at, IsAscending};
+ghost use Rattle.transactions.specs.Tables.{entry_of, pages_in, written_at, IsAscending};
 ghost use Rattle.transactions.specs.Standing.{images_of, AreNumbered, IsReady, IsReadyForSome, Stands};
 ghost use Rattle.transactions.specs.Calls.{AreOutOfReach, StepsWell};
 
@@ -78,6 +78,7 @@ impl Transactions {
         requires { IsReadyForSome self.old }
         ensures steps { StepsWell self.old self.new (Begin txn) (done_reply result) }
         ensures unchanged { OnErr result (self.new ≡ self.old) }
+        ensures frames { self.new.frames ≡ self.old.frames }
     {
         if self.table.has(txn) {
             return Err(Refusal::AlreadyOpen);
@@ -116,6 +117,18 @@ impl Transactions {
     {
         let entry = self.table.find(txn)?;
         entry.written().get(at as usize).copied()
+    }
+
+    /// The pages that a transaction wrote. It has none where it isn't open.
+    pub fn pages_written(&self, txn: u32) -> &[u32]
+        ensures pages { result.now ≡ pages_in (entry_of self.now.table txn) }
+        ensures ascending { IsAscending result.now }
+        ensures few { length result.now ≤ MOST_WRITTEN }
+    {
+        match self.table.find(txn) {
+            Some(entry) => entry.written(),
+            None => &[],
+        }
     }
 
     /// The frame of a page. It is one step of the counter.

@@ -1,9 +1,9 @@
 //! What a transaction writes and makes.
-ghost use Rattle.std.specs.Prelude.{◌≡◌, ◌+◌, ◌≤◌, OnErr};
+ghost use Rattle.std.specs.Prelude.{◌≡◌, ◌+◌, ◌≤◌, [], ◌∷◌, OnOk, OnErr};
 ghost use Rattle.object_graph.specs.declared.calls.Call.TheVariants.{New, Put, Set};
 ghost use Rattle.object_graph.specs.Replies.{done_reply, made_reply};
 ghost use Rattle.transactions.specs.Standing.{IsReadyForSome};
-ghost use Rattle.transactions.specs.Calls.{StepsWell};
+ghost use Rattle.transactions.specs.Calls.{StepsWell, ChangesFramesOf};
 
 use crate::transactions::Transactions;
 use object_graph::{Name, Refusal, Steps};
@@ -24,6 +24,7 @@ impl Transactions {
         requires { IsReadyForSome self.old }
         ensures steps { StepsWell self.old self.new (Set txn name field target) (done_reply result) }
         ensures unchanged { OnErr result (self.new ≡ self.old) }
+        ensures frames { OnOk result (ChangesFramesOf (name.page ∷ []) self.old.frames self.new.frames) }
         ensures ticks { steps.new ≤ steps.old + 1 }
     {
         let Some(entry) = self.table.find(txn) else {
@@ -63,6 +64,7 @@ impl Transactions {
         requires { IsReadyForSome self.old }
         ensures steps { StepsWell self.old self.new (Put txn name value) (done_reply result) }
         ensures unchanged { OnErr result (self.new ≡ self.old) }
+        ensures frames { OnOk result (ChangesFramesOf (name.page ∷ []) self.old.frames self.new.frames) }
         ensures ticks { steps.new ≤ steps.old + 1 }
     {
         let Some(entry) = self.table.find(txn) else {
@@ -97,6 +99,7 @@ impl Transactions {
         requires { IsReadyForSome self.old }
         ensures steps { StepsWell self.old self.new (New txn page) (made_reply result) }
         ensures unchanged { OnErr result (self.new ≡ self.old) }
+        ensures frames { OnOk result (ChangesFramesOf (page ∷ []) self.old.frames self.new.frames) }
         ensures ticks { steps.new ≤ steps.old + 1 }
     {
         let Some(entry) = self.table.find(txn) else {

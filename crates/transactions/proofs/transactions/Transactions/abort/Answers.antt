@@ -1,8 +1,12 @@
-use Rattle.std.proofs.Common.{List, [], sym, subst, ap, ◌∙◌, refl}
+use Rattle.std.proofs.Common.{◌≡◌, ℕ, List, [], sym, subst, ap, ◌∙◌, refl}
 use Rattle.store_model.specs.Causes.{has_page}
 use Rattle.store_model.specs.Steps.{without}
+use Rattle.page_buffer.specs.Frames.{reverted}
 use Rattle.page_buffer.specs.declared.frame.Frame.{Frame}
-use Rattle.transactions.specs.Standing.{AreFramesOf}
+use Rattle.transactions.specs.Tables.{entry_of, pages_in}
+use Rattle.transactions.specs.Calls.{ChangesFramesOf}
+use Rattle.transactions.specs.Standing.{TransactionsParts, AreFramesOf}
+use Rattle.transactions.proofs.PagesChanged.{changes_of_these}
 use Rattle.transactions.proofs.Opened.{opened, wrote_within}
 use Rattle.transactions.proofs.Refusals.{is_open}
 use Rattle.transactions.proofs.Ends.{table_without, locks_without, frames_abort}
@@ -28,3 +32,15 @@ returns-clause-steps c = λ w r.
             o.ready.stands.frames (record { count = c.revert_all.ensures.count; frames = c.revert_all.ensures.frames }));
       };
     }
+
+pub returns-clause-frames : goal.returns-clause-frames
+returns-clause-frames c =
+    let o = opened c.args.self.now _ c.requires.0 c.args.txn c.in-Some.entry.now (sym c.self.view_is) (sym c.in-Some.ensures) c.requires.1 in
+    let is : pages_in (entry_of c.self.inside.table c.args.txn) ≡ c.in-Some.entry.now.written = ap pages_in o.is in
+    subst (λ (s : TransactionsParts). ChangesFramesOf (pages_in (entry_of s.table c.args.txn)) s.frames c.close.new.self.frames) c.self.view_is
+    (subst (λ (ps : List ℕ). ChangesFramesOf ps c.self.inside.buffer c.close.new.self.frames) (sym is)
+    (subst (λ (fs : List Frame). ChangesFramesOf c.in-Some.entry.now.written c.self.inside.buffer fs) (sym c.close.ensures.frames)
+    (subst (λ (ps : List ℕ). ChangesFramesOf ps c.self.inside.buffer c.revert_all.new.buffer) c.written.ensures.pages
+    (changes_of_these reverted c.self.inside.buffer c.revert_all.new.buffer c.written.result.now
+    (λ page h. wrote_within _ c.requires.0 c.args.txn c.in-Some.entry.now page o (ap (λ ps. has_page ps page) (sym c.written.ensures.pages) ∙ h))
+    (record { count = c.revert_all.ensures.count; frames = c.revert_all.ensures.frames })))))

@@ -1,11 +1,13 @@
-use Rattle.std.proofs.Common.{List, Some, sym, subst}
+use Rattle.std.proofs.Common.{◌<◌, List, [], ◌∷◌, length, Some, refl, sym, subst}
 use Rattle.object_graph.specs.declared.calls.Call.TheVariants.{New}
 use Rattle.object_graph.specs.declared.calls.Refusal.TheVariants.{Busy, TooWide, KnowsTooMany, PageFull}
 use Rattle.page_buffer.specs.declared.frame.Frame.{Frame}
 use Rattle.transactions.specs.Tables.{NotesPage, NotesTarget}
-use Rattle.transactions.specs.Standing.{Stands}
+use Rattle.transactions.specs.Calls.{ChangesFramesOf}
+use Rattle.transactions.specs.Standing.{TransactionsParts, Stands}
 use Rattle.transactions.proofs.Entries.{changes_twice}
 use Rattle.transactions.proofs.Opened.{opened, open_admitted, page_below}
+use Rattle.transactions.proofs.PagesChanged.{changes_of_one}
 use Rattle.transactions.proofs.Refusals.{refused}
 use Rattle.transactions.proofs.Creates.{create_busy, create_wide, create_knowing, create_full, creates, answers_made, stands_made}
 use Rattle.transactions.proofs.transactions.Transactions.create.Goals as goal
@@ -79,3 +81,9 @@ returns-clause-steps g c = λ w r.
       allowed = (made.allowed, answers_made w c.args.txn c.args.page c.in-Ok.name made.named);
       stands = stands_made w _ c.args.txn c.args.page c.in-Ok.name made;
     }
+
+pub returns-clause-frames : goal.returns-clause-frames
+returns-clause-frames g c =
+    let low : c.args.page < length c.self.inside.buffer = subst (λ n. c.args.page < n) c.count.ensures.value c.if-page-count.false in
+    subst (λ (s : TransactionsParts). ChangesFramesOf (c.args.page ∷ []) s.frames c.take_slot.new.self) c.self.view_is
+    (changes_of_one c.self.inside.buffer c.take_slot.new.self c.args.page c.args.page _ low refl c.in-Ok.ensures.taken)

@@ -1,8 +1,11 @@
-use Rattle.std.proofs.Common.{ℕ, ◌<◌, true, sym, arith, subst, ◌∙◌, refl}
+use Rattle.std.proofs.Common.{[], ◌∷◌, ℕ, ◌<◌, true, sym, arith, subst, ◌∙◌, refl}
 use Rattle.object_graph.specs.declared.calls.Call.TheVariants.{Set}
 use Rattle.object_graph.specs.declared.calls.Refusal.TheVariants.{Busy, TooWide}
 use Rattle.store_model.specs.Worlds.{link}
+use Rattle.transactions.specs.Calls.{ChangesFramesOf}
+use Rattle.transactions.specs.Standing.{TransactionsParts}
 use Rattle.transactions.proofs.Opened.{opened, open_admitted}
+use Rattle.transactions.proofs.PagesChanged.{changes_of_one}
 use Rattle.transactions.proofs.Refusals.{refused}
 use Rattle.transactions.proofs.Writes.{page_in_frames, page_in_locks, known_slot, set_known, write_busy, write_wide, write_stands}
 use Rattle.transactions.proofs.transactions.Transactions.set.Goals as goal
@@ -99,3 +102,12 @@ returns-clause-steps g c = λ w r.
             frames = c.write_ref.ensures.written;
           });
     }
+
+pub returns-clause-frames : goal.returns-clause-frames
+returns-clause-frames g c =
+    subst (λ (s : TransactionsParts). ChangesFramesOf (c.args.name.page ∷ []) s.frames c.write_ref.new.self) c.self.view_is
+    (changes_of_one c.self.inside.buffer c.write_ref.new.self c.args.name.page c.page-page.result _
+    (page_in_frames _ c.requires.0 c.args.txn c.in-Some.entry.now c.args.name c.page-page.result
+    (opened c.args.self.now _ c.requires.0 c.args.txn c.in-Some.entry.now (sym c.self.view_is) (sym c.in-Some.ensures) c.requires.1)
+    (sym c.if-not-knows.ensures) c.page-page.ensures.value)
+    c.page-page.ensures.value c.write_ref.ensures.written)
