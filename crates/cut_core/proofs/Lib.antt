@@ -13,3 +13,4 @@ pub mod Holding
 pub mod Giving
 pub mod Closings
 pub mod Sweeping
+pub mod Touching

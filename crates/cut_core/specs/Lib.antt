@@ -9,3 +9,4 @@ pub mod Holding
 pub mod Whole
 pub mod Given
 pub mod Sweeping
+pub mod Touched

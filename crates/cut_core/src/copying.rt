@@ -8,7 +8,7 @@ ghost use Rattle.cut_model.specs.CutPages.{with_copy, with_commit};
 ghost use Rattle.cut_core.specs.Joints.{copy_of_frame};
 ghost use Rattle.cut_builder.specs.CutParts.{page_of, with_page, copied_of, IsLater, HasOneNameEach};
 ghost use Rattle.cut_core.specs.Holding.{Copies, copy_refusal, before_of_frame, IsImageGiven, IsGivenUpTo};
-ghost use Rattle.cut_core.specs.Writing.{pages_in};
+ghost use Rattle.transactions.specs.Tables.{pages_in};
 ghost use Rattle.transactions.specs.Tables.{entry_of};
 
 use cut_builder::Cut;

@@ -12,6 +12,7 @@ ghost use Rattle.cut_core.specs.Calls.{IsBuilt, IsOfCut, is_of_cut, TakesSteps, 
 ghost use Rattle.cut_core.specs.Given.{KeepsGiven};
 ghost use Rattle.cut_core.specs.Holding.{Holds, AddsFrame, beside_of};
 ghost use Rattle.cut_core.specs.Standing.{Stands, StepsWell, CrashesWell, Steps as StepsTo};
+ghost use Rattle.cut_core.specs.Touched.{TouchesWell};
 
 use crate::held::Held;
 use crate::store::Store;
@@ -85,6 +86,7 @@ pub fn answer<D: Disk, L: Ledger>(
     ensures freed { (page slots : ℕ) → call.now ≡ Sweep page → result ≡ Freed slots → AreDoomedOn (beside_of held.old.cut).roots (beside_of held.old.cut).pages page slots }
     ensures idle { (page : ℕ) → call.now ≡ Sweep page → result ≡ Freed 0 → store.new.disk ≡ store.old.disk }
     ensures taken { TakesSteps call.now result steps.old steps.new }
+    ensures frames { TouchesWell store.old.transactions store.new.transactions call.now result }
 {
     if is_on_cut(call) {
         return call_cut(store, held, alloc, call, steps);

@@ -13,6 +13,7 @@ mod store;
 mod sweep;
 #[cfg(test)]
 mod tests;
+mod touched;
 mod transact;
 
 pub use kept_world::KeptWorld;

@@ -1,5 +1,5 @@
 //! The store, beside the world that it stands for.
-ghost use Rattle.std.specs.Prelude.{◌≡◌, ◌≢◌, ◌≤◌, ◌<◌, ◌+◌, ℕ, List, Option, Some, None, Err, IfOk, IfErr, OnOk, IfSome, IsSomeAnd};
+ghost use Rattle.std.specs.Prelude.{◌≡◌, ◌≢◌, ◌≤◌, ◌<◌, ◌+◌, ◌↔◌, ℕ, List, [], Option, Some, None, Err, IfOk, IfErr, OnOk, IfSome, IsSomeAnd, length, slice_get};
 ghost use Rattle.object_graph.specs.declared.calls.Call.TheVariants.{Copy, Reopen, Sweep};
 ghost use Rattle.object_graph.specs.declared.calls.Refusal.{Refusal as AnyRefusal};
 ghost use Rattle.object_graph.specs.declared.calls.Reply.TheVariants.{Done, Freed, Refused};
@@ -24,11 +24,14 @@ ghost use Rattle.cut_core.specs.Holding.{AddsFrame};
 ghost use Rattle.cut_core.specs.Reopening.{Happens, IsOpenedAnew, IsOfReopening};
 ghost use Rattle.cut_core.specs.Seen.{StandsForEither};
 ghost use Rattle.cut_core.specs.Starts.{IsJustOpened, disk_left};
+ghost use Rattle.cut_core.specs.Touched.{AreTouched};
+ghost use Rattle.page_buffer.specs.Frames.{frame_at};
 
 use crate::cutting::answer;
 use crate::held::Held;
 use crate::kept_world::{Answered, Closing, KeptWorld, Marking};
 use crate::store::Store;
+use crate::touched::Touched;
 use cut_builder::{ClosedCut, MarkedCut};
 use disk_trait::Disk;
 use object_graph::{Call, Memory, Refusal, Reply, Steps};
@@ -47,6 +50,7 @@ pub struct Core<D: Disk> {
     store: Store<D>,
     held: Held,
     told: Told<KeptWorld>,
+    touched: Touched,
 }
 
 impl<D: Disk> Model for Core<D> {
@@ -57,7 +61,7 @@ impl<D: Disk> Model for Core<D> {
     ghost use Rattle.cut_core.specs.Holding.{beside_of};
     ghost use Rattle.cut_core.specs.Whole.{Keeps};
 
-    ghost view = { λ c. record { world = c.told.value; disk = c.store.disk; beside = beside_of c.held.cut } };
+    ghost view = { λ c. record { world = c.told.value; disk = c.store.disk; beside = beside_of c.held.cut; frames = c.store.transactions.frames; touched = c.touched } };
 
     ghost invariant = { λ c. Keeps D.Disk c.store c.held c.told.value };
 }
@@ -70,6 +74,7 @@ impl<D: Disk> Core<D> {
         ensures store { IfOk result (λ core. IfSome (D.content disk) (λ file. (store : StoreParts) × IsStore file store)) }
         // Whatever the disk tells.
         ensures just_opened { IfOk result (λ core. IsJustOpened core.world) }
+        ensures touched { IfOk result (λ core. core.touched ≡ []) }
 
         // Why it isn't opened.
         ensures none { (left : D) → result ≡ Err (left, OpenFault.NotAStore) → IfSome (D.content disk) (λ file. HasFault file not_a_store) }
@@ -94,6 +99,9 @@ impl<D: Disk> Core<D> {
             Err(fault) => return Err((disk, fault)),
         };
         let told = Told::by(&opened);
+        let Ok(touched) = Touched::with_room(alloc) else {
+            return Err((disk, OpenFault::Memory));
+        };
         let Opened {
             pages,
             commits,
@@ -114,6 +122,7 @@ impl<D: Disk> Core<D> {
                     last_cut: 0,
                 },
                 told,
+                touched,
             }),
             Err(Memory) => Err((disk, OpenFault::Memory)),
         }
@@ -151,7 +160,11 @@ impl<D: Disk> Core<D> {
         // How often a call on the cut reads a frame or frees in one: a copy once at most, a sweep that frees
         // twice.
         ensures taken { TakesSteps call result steps.old steps.new }
+
+        // What it changed of the frames.
+        ensures touched { AreTouched self.old.world call result self.old.frames self.new.frames self.new.touched }
     {
+        self.touched.note_call(&self.store.transactions, &call);
         let reply = answer(&mut self.store, &mut self.held, self.alloc, &call, steps);
         let faults = self.store.disk.faults();
         self.told = Told::by(&Answered {
@@ -160,6 +173,8 @@ impl<D: Disk> Core<D> {
             reply: &reply,
             faults,
         });
+        self.touched
+            .note_reply(&call, &reply, self.store.transactions.pages());
         reply
     }
 
@@ -186,9 +201,13 @@ impl<D: Disk> Core<D> {
         ensures content { D.content self.new.disk ≡ D.content self.old.disk }
         ensures keeps { KeepsDisk D.Disk self.old.disk self.new.disk }
         ensures given { (number : ℕ) (pages : List CutPage) → HasGiven self.old.world self.old.beside number pages → HasGiven self.new.world self.new.beside number pages }
+        // From `Reopened` on all pages are touched, and by a refusal none.
+        ensures touched { AreTouched self.old.world Reopen result self.old.frames self.new.frames self.new.touched }
     {
         let (reply, told) = self.store.reopen(&mut self.held, self.alloc, &self.told);
         self.told = told;
+        self.touched
+            .note_reply(&Call::Reopen, &reply, self.store.transactions.pages());
         reply
     }
 
@@ -201,7 +220,10 @@ impl<D: Disk> Core<D> {
         ensures gives { IfOk result (λ cut. HasGiven self.new.world self.new.beside cut.number cut.pages) }
         ensures given { (number : ℕ) (pages : List CutPage) → HasGiven self.old.world self.old.beside number pages → HasGiven self.new.world self.new.beside number pages }
         ensures disk { self.new.disk ≡ self.old.disk }
+        ensures touched { self.new.touched ≡ [] }
+        ensures frames { self.new.frames ≡ self.old.frames }
     {
+        self.touched.note_nothing();
         if let Some(faults) = self.store.broken {
             return Err(Refusal::Broken { faults });
         }
@@ -235,7 +257,10 @@ impl<D: Disk> Core<D> {
         ensures back { IfErr result (λ e. e.0 ≡ marked) }
         ensures given { (number : ℕ) (pages : List CutPage) → HasGiven self.old.world self.old.beside number pages → HasGiven self.new.world self.new.beside number pages }
         ensures disk { self.new.disk ≡ self.old.disk }
+        ensures touched { self.new.touched ≡ [] }
+        ensures frames { self.new.frames ≡ self.old.frames }
     {
+        self.touched.note_nothing();
         if let Some(faults) = self.store.broken {
             return Err((marked, Refusal::Broken { faults }));
         }
@@ -265,9 +290,19 @@ impl<D: Disk> Core<D> {
     pub fn frame<L: Ledger>(&self, page: u32, steps: &mut Steps<L>) -> &Frame
         requires { page < self.now.world.pages }
         ensures frame { IsFrameOf self.now.world page result.now }
+        ensures value { result.now ≡ frame_at self.now.frames page }
         ensures step { steps.new ≡ steps.old + 1 }
     {
         self.store.transactions.frame(page, steps)
+    }
+
+    /// The page at this place of those whose frames the last call changed, ascending. Before the first
+    /// call there is none, and calls that change nothing of the core, as this one, don't count.
+    pub fn touched(&self, at: u32) -> Option<u32>
+        ensures page { result ≡ slice_get self.now.touched at }
+        ensures past { (result ≡ None) ↔ (length self.now.touched ≤ at) }
+    {
+        self.touched.page(at)
     }
 
     /// How many commits there were.
@@ -307,6 +342,7 @@ impl<D: Disk> Core<D> {
             store,
             held: _,
             told: _,
+            touched: _,
         } = self;
         let Store {
             transactions: _,

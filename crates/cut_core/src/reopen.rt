@@ -39,6 +39,7 @@ impl<D: Disk> Store<D> {
     ghost use Rattle.cut_core.specs.Holding.{Holds};
     ghost use Rattle.cut_core.specs.Seen.{StandsForEither};
     ghost use Rattle.cut_core.specs.Standing.{Stands};
+    ghost use Rattle.cut_core.specs.Touched.{TouchesWell};
 
     /// Opens the store again, and drops all transactions. The disk is read, and the rest stays where
     /// it isn't a store, or memory lacks.
@@ -53,6 +54,7 @@ impl<D: Disk> Store<D> {
         ensures anew { IfOk result (λ next. D.content self.old.disk ≡ None → IsOpenedAnew told.now.value self.new.commits next.value) }
         ensures cut { IfOk result (λ next. HasNoCut told.now.value next.value) }
         ensures kept { OnErr result (Stands D.Disk self.new told.now.value) }
+        ensures same { OnErr result (self.new.transactions ≡ self.old.transactions) }
         ensures none { IsErrOf result OpenFault.NotAStore → D.content self.old.disk ≡ None }
         ensures bad { (at : ℕ) → result ≡ Err (OpenFault.Damaged at) → D.content self.old.disk ≡ None }
         ensures fault { IsErrOf result OpenFault.DiskFault → Rose (D.fault_count self.old.disk) (D.fault_count self.new.disk) }
@@ -113,6 +115,7 @@ impl<D: Disk> Store<D> {
         ensures content { D.content self.new.disk ≡ D.content self.old.disk }
         ensures any_moment { IfSome (D.content self.old.disk) (λ file. LeavesOnly D.Disk self.old.disk self.new.disk (StandsForEither told.now.value result.1.value)) }
         ensures keeps { KeepsDisk D.Disk self.old.disk self.new.disk }
+        ensures frames { TouchesWell self.old.transactions self.new.transactions Reopen result.0 }
     {
         match self.open_again(alloc, told) {
             Ok(next) => {
@@ -135,6 +138,7 @@ impl<D: Disk> Store<D> {
         ensures reply { result.0 ≡ Refused (refusal_of fault) }
         ensures world { result.1.value ≡ next told.now.value (event_of Reopen (Refused (refusal_of fault)) (D.fault_count self.old.disk)) }
         ensures disk { self.new.disk ≡ self.old.disk }
+        ensures same { self.new.transactions ≡ self.old.transactions }
     {
         let faults = self.disk.faults();
         if let OpenFault::DiskFault = fault {

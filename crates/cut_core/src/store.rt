@@ -33,6 +33,7 @@ impl<D: Disk> Store<D> {
     ghost use Rattle.cut_core.specs.Given.{KeepsGiven};
     ghost use Rattle.cut_core.specs.Holding.{Holds, beside_of};
     ghost use Rattle.cut_core.specs.Standing.{Stands, StepsWell, CrashesWell};
+    ghost use Rattle.cut_core.specs.Touched.{TouchesWell};
 
     /// One call, and its reply.
     pub fn call<L: Ledger>(&mut self, held: &mut Held, call: &Call, steps: &mut Steps<L>) -> Reply
@@ -48,6 +49,7 @@ impl<D: Disk> Store<D> {
         ensures freed { (page slots : ℕ) → call.now ≡ Sweep page → result ≡ Freed slots → AreDoomedOn (beside_of held.old.cut).roots (beside_of held.old.cut).pages page slots }
         ensures idle { (page : ℕ) → call.now ≡ Sweep page → result ≡ Freed 0 → self.new.disk ≡ self.old.disk }
         ensures taken { TakesSteps call.now result steps.old steps.new }
+        ensures frames { TouchesWell self.old.transactions self.new.transactions call.now result }
     {
         if let Some(faults) = self.broken {
             return Reply::Refused {
@@ -73,6 +75,7 @@ impl<D: Disk> Store<D> {
         ensures fault { result ≡ Refused DiskFault → Rose (D.fault_count self.old.disk) (D.fault_count self.new.disk) }
         ensures calm { result ≢ Refused DiskFault → D.fault_count self.new.disk ≡ D.fault_count self.old.disk }
         ensures keeps { KeepsDisk D.Disk self.old.disk self.new.disk }
+        ensures frames { TouchesWell self.old.transactions self.new.transactions (Commit txn) result }
     {
         if !self.transactions.is_open(txn) {
             return Reply::Refused {

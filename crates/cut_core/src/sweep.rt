@@ -21,6 +21,7 @@ ghost use Rattle.cut_core.specs.Given.{KeepsGiven};
 ghost use Rattle.cut_core.specs.Holding.{Holds, beside_of, beside_stage};
 ghost use Rattle.cut_core.specs.Standing.{Stands, StepsWell, CrashesWell};
 ghost use Rattle.cut_core.specs.Sweeping.{sweep_refusal};
+ghost use Rattle.cut_core.specs.Touched.{TouchesWell};
 
 use crate::commit::write_record;
 use crate::held::{Held, HeldCut, Stage};
@@ -120,6 +121,7 @@ impl<D: Disk> Store<D> {
         ensures freed { (slots : ℕ) → result ≡ FreedOf slots → AreDoomedOn (beside_of held.old.cut).roots (beside_of held.old.cut).pages page slots }
         ensures idle { result ≡ FreedOf 0 → self.new.disk ≡ self.old.disk }
         ensures taken { TakesSteps (Sweep page) result steps.old steps.new }
+        ensures frames { TouchesWell self.old.transactions self.new.transactions (Sweep page) result }
     {
         let slots = match held.doomed(page) {
             Ok(slots) => slots,
@@ -155,6 +157,7 @@ impl<D: Disk> Store<D> {
         ensures keeps { KeepsDisk D.Disk self.old.disk self.new.disk }
         ensures freed { (all : ℕ) → result ≡ FreedOf all → all ≡ slots }
         ensures taken { TakesSteps (Sweep page) result steps.old steps.new }
+        ensures frames { TouchesWell self.old.transactions self.new.transactions (Sweep page) result }
     {
         stage_sweep(&self.transactions, &mut self.journal, page, slots, steps);
         match write_record(&mut self.disk, &mut self.journal, self.commits) {

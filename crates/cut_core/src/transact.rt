@@ -3,6 +3,7 @@ ghost use Rattle.std.specs.Prelude.{◌≡◌};
 ghost use Rattle.transactions.specs.Standing.{IsReadyForSome};
 ghost use Rattle.transactions.specs.Calls.{StepsWell};
 ghost use Rattle.cut_core.specs.Calls.{IsOfTransaction};
+ghost use Rattle.cut_core.specs.Touched.{TouchesWell};
 
 use object_graph::{Call, Reply, Steps};
 use std::sync::ledger::Ledger;
@@ -16,7 +17,8 @@ pub fn transact<L: Ledger>(
 ) -> Reply
     requires ready { IsReadyForSome transactions.old }
     requires which { IsOfTransaction call.now }
-    ensures { StepsWell transactions.old transactions.new call.now result }
+    ensures steps { StepsWell transactions.old transactions.new call.now result }
+    ensures frames { TouchesWell transactions.old transactions.new call.now result }
 {
     match *call {
         Call::Begin { txn } => Reply::done(transactions.begin(txn)),

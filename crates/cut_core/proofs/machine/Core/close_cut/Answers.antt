@@ -8,8 +8,8 @@ use Rattle.cut_core.specs.Whole.{Keeps}
 use Rattle.cut_core.proofs.Closings.{closed_rest, keeps_beside, keeps_seen}
 use Rattle.cut_core.proofs.machine.Core.close_cut.Goals as goal
 
-pub invariant_of-self : goal.invariant_of-self
-invariant_of-self g c =
+pub invariant_of-self-2 : goal.invariant_of-self-2
+invariant_of-self-2 g c =
     let w = c.self.inside.told.value in
     let h = c.self.invariant in
     subst (Keeps g.D.Disk c.self.inside.store c.close-answer.new.self) (sym c.by.ensures)

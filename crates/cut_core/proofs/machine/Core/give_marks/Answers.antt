@@ -9,8 +9,8 @@ use Rattle.cut_core.specs.Whole.{Keeps}
 use Rattle.cut_core.proofs.Closings.{marked_rest, keeps_beside, keeps_seen}
 use Rattle.cut_core.proofs.machine.Core.give_marks.Goals as goal
 
-pub invariant_of-self : goal.invariant_of-self
-invariant_of-self g c =
+pub invariant_of-self-2 : goal.invariant_of-self-2
+invariant_of-self-2 g c =
     let w = c.self.inside.told.value in
     let h = c.self.invariant in
     let answer = c.take_marks-answer.result in

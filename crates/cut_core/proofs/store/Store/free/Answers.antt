@@ -10,6 +10,8 @@ use Rattle.image_model.specs.Records.{sweep_record}
 use Rattle.cut_core.proofs.Holding.{refused_holds}
 use Rattle.cut_core.proofs.Recorded.{staged_own, leaves_either, leaves_now, may_fail_there}
 use Rattle.cut_core.proofs.Sweeping.{is_sweep, is_staged, sweep_steps, unswept_steps, either_swept, either_unswept, broken_in_sweep}
+use Rattle.transactions.specs.Standing.{TransactionsParts}
+use Rattle.cut_core.proofs.Touching.{swept_frames}
 use Rattle.cut_core.proofs.store.Store.free.Goals as goal
 
 pub stage_sweep-requires-clause-used : goal.stage_sweep-requires-clause-used
@@ -81,3 +83,9 @@ pub returns-in-Ok-clause-held : goal.returns-in-Ok-clause-held
 returns-in-Ok-clause-held g c = λ w h holds.
     let k = is_sweep g.D.Disk c.args.self.now c.args.held.now c.args.page c.args.slots w c.requires.sound c.requires.may c.requires.doomed h holds in
     c.note_swept.ensures.well w c.args.slots holds k.may
+
+pub returns-in-Ok-clause-frames : goal.returns-in-Ok-clause-frames
+returns-in-Ok-clause-frames g c =
+    swept_frames c.args.self.now.transactions c.free.new.self c.args.page c.args.slots _
+    (is_sweep g.D.Disk c.args.self.now c.args.held.now c.args.page c.args.slots c.requires.stands.0 c.requires.sound c.requires.may c.requires.doomed c.requires.stands.1 c.requires.stands.2).low
+    c.requires.some (ap (λ (s : TransactionsParts). s.frames) c.free.ensures.frames)

@@ -7,6 +7,7 @@ use Rattle.cut_core.specs.Reopening.{Happens, refusal_of}
 use Rattle.recovery.specs.declared.faults.OpenFault.TheVariants as faulty
 use Rattle.cut_core.specs.Holding.{Holds}
 use Rattle.cut_core.proofs.Again.{reopened_holds, stay_holds, reopened_happens, refused_happens}
+use Rattle.cut_core.proofs.Touching.{all_changed}
 use Rattle.cut_core.proofs.store.Store.reopen.Goals as goal
 
 pub returns-in-Ok-clause-happens : goal.returns-in-Ok-clause-happens
@@ -33,3 +34,8 @@ pub returns-in-Err-clause-holds : goal.returns-in-Err-clause-holds
 returns-in-Err-clause-holds g c =
     subst (Holds c.args.held.now) (sym c.stay.ensures.world)
     (stay_holds c.args.held.now c.args.told.now.value c.in-Err.fault (g.D.Disk.fault_count c.open_again.new.self.disk) c.requires.holds)
+
+pub returns-in-Ok-clause-frames : goal.returns-in-Ok-clause-frames
+returns-in-Ok-clause-frames g c =
+    all_changed c.args.self.now.transactions.frames c.open_again.new.self.transactions.frames
+    (c.in-Ok.ensures.taken.transactions.frames.count ∙ (c.in-Ok.ensures.cut.pages ∙ sym c.requires.stands.transactions.frames.count))
