@@ -1,19 +1,17 @@
 -- The pages whose frames a call changed.
-use Rattle.std.proofs.Common.{◌≡◌, ◌≢◌, inl, inr, ℕ, ◌<◌, ◌≤◌, ◌==◌, Bool, true, false, not, ◌&&◌, cond, List, [], ◌∷◌, length, get_or, Option, Some, None, Result, Ok, Err, refl, sym, subst, ap, ◌∙◌, arith}
-use Rattle.std.specs.Prelude.{OnOk, OnErr, nat_lt}
+use Rattle.std.proofs.Common.{◌≡◌, ◌≢◌, inl, inr, ℕ, ◌<◌, ◌≤◌, ◌==◌, Bool, true, false, not, ◌&&◌, cond, List, [], ◌∷◌, length, get_or, Option, Some, None, refl, sym, subst, ap, ◌∙◌, arith}
+use Rattle.std.specs.Prelude.{nat_lt}
+use Rattle.std.specs.Bool.{then_some}
 use Rattle.std.specs.List.{slice_get}
 use Rattle.std.specs.Option.{unwrap_or}
 use Rattle.std.proofs.lemmas.List.{get_or_past}
-use Rattle.std.proofs.lemmas.Bool.{cases_Bool, cases_lt, eq-eqb, eqb-true, ne_eqb, lt-ltb, ltb-true}
+use Rattle.std.proofs.lemmas.Bool.{cases_Bool, cases_lt, eq-eqb, eqb-true, ne_eqb, lt-ltb, ltb-true, ltb-false}
 use Rattle.std.proofs.lemmas.Option.{slice_get-get_or, slice_get_past}
 use Rattle.object_graph.specs.Slots.{below}
-use Rattle.object_graph.specs.NameParts.{NameParts}
-use Rattle.object_graph.specs.Replies.{done_reply, made_reply}
 use Rattle.object_graph.specs.declared.calls.Call.{Call}
 use Rattle.object_graph.specs.declared.calls.Call.TheVariants.{Set, Put, New, Commit, Abort, OpenCut, Copy, Sweep, EndCut, DropCut, Reopen}
 use Rattle.object_graph.specs.declared.calls.Reply.{Reply}
-use Rattle.object_graph.specs.declared.calls.Reply.TheVariants.{Done, Freed, Refused}
-use Rattle.object_graph.specs.declared.calls.Refusal.{Refusal}
+use Rattle.object_graph.specs.declared.calls.Reply.TheVariants.{Freed, Refused}
 use Rattle.object_graph.proofs.Members.{any_in, in_any}
 use Rattle.store_model.specs.Worlds.{World, Transaction, find_transaction, fresh_transaction}
 use Rattle.store_model.specs.Causes.{has_page}
@@ -32,12 +30,17 @@ use Rattle.cut_core.specs.Touched.{frees_some, may_touch, AreTouched, pages_ende
 
 -- ---- all pages of a store
 
-pub page_of_all : (n at : ℕ) → at < n → Some at ≡ slice_get (below n) at
-page_of_all n at low =
-    sym (slice_get-get_or (below n) at 0 (let l = length_below n in omega arith) ∙ ap (λ (p : ℕ). Some p) (get_below n at low))
-
-pub past_all : (n at : ℕ) → n ≤ at → None ≡ slice_get (below n) at
-past_all n at past = sym (slice_get_past (below n) at (let l = length_below n in omega arith))
+pub page_of_all : (n at : ℕ) → then_some (nat_lt at n) at ≡ slice_get (below n) at
+page_of_all n at = elim (cases_Bool (nat_lt at n)) [
+  | inl low ↦
+      let l = length_below n in
+      let lt : at < n = ltb-true at n low in
+      ap (λ b. then_some b at) low ∙ (ap (λ (p : ℕ). Some p) (sym (get_below n at lt)) ∙ sym (slice_get-get_or (below n) at 0 (omega arith)))
+  | inr high ↦
+      let l = length_below n in
+      let past : n ≤ at = ltb-false at n high in
+      ap (λ b. then_some b at) high ∙ sym (slice_get_past (below n) at (omega arith))
+]
 
 below_has : (n page : ℕ) → page < n → has_page (below n) page ≡ true
 below_has n page low = in_any (λ p. p == page) (below n) page (in_below n page low) (eq-eqb page page refl)
@@ -108,7 +111,7 @@ quiet_touches n ended (Sweep page) reply quiet = absurd cc
 quiet_touches n ended Reopen reply quiet = absurd cc
 quiet_touches n ended call reply quiet = refl
 
-pub quiet_frames : (old new : TransactionsParts) (call : Call) (reply : Reply) → is_quiet call ≡ true → new.frames ≡ old.frames → TouchesWell old new call reply
+quiet_frames : (old new : TransactionsParts) (call : Call) (reply : Reply) → is_quiet call ≡ true → new.frames ≡ old.frames → TouchesWell old new call reply
 quiet_frames old new call reply quiet same =
     subst (λ ps. ChangesFramesOf ps old.frames new.frames) (sym (quiet_touches (length old.frames) (pages_ended old.table call) call reply quiet)) (nothing_changed old.frames new.frames same)
 
@@ -121,15 +124,6 @@ quiet_on_cut _ on = absurd cc
 
 pub cut_frames : (s : TransactionsParts) (call : Call) (reply : Reply) → is_of_cut call ≡ true → TouchesWell s s call reply
 cut_frames s call reply on = quiet_frames s s call reply (quiet_on_cut call on) refl
-
-pub done_frames : (old new : TransactionsParts) (call : Call) (pages : List ℕ) (r : Result (Unit {0}) Refusal) → touched_after (length old.frames) (pages_ended old.table call) call Done ≡ pages
-    → OnErr r (new ≡ old) → OnOk r (ChangesFramesOf pages old.frames new.frames) → TouchesWell old new call (done_reply r)
-done_frames old new call pages (Ok done) is kept changed = subst (λ ps. ChangesFramesOf ps old.frames new.frames) (sym is) changed
-done_frames old new call pages (Err why) is kept changed = nothing_changed old.frames new.frames (ap (λ (s : TransactionsParts). s.frames) kept)
-
-pub made_frames : (old new : TransactionsParts) (txn page : ℕ) (r : Result NameParts Refusal) → OnErr r (new ≡ old) → OnOk r (ChangesFramesOf (page ∷ []) old.frames new.frames) → TouchesWell old new (New txn page) (made_reply r)
-made_frames old new txn page (Ok name) kept changed = changed
-made_frames old new txn page (Err why) kept changed = nothing_changed old.frames new.frames (ap (λ (s : TransactionsParts). s.frames) kept)
 
 -- a sweep that frees
 pub swept_frames : (old new : TransactionsParts) (page slots : ℕ) (frame : Frame) → page < length old.frames → slots ≢ 0 → new.frames ≡ with_frame old.frames page frame → TouchesWell old new (Sweep page) (Freed slots)

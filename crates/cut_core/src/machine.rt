@@ -12,7 +12,7 @@ ghost use Rattle.store_model.specs.Steps.{next};
 ghost use Rattle.image_model.specs.Opening.{StoreParts, not_a_store, damaged};
 ghost use Rattle.image_model.specs.Stores.{IsStore, HasFault};
 ghost use Rattle.image_model.specs.Stands.{StandsForWorld, opened};
-ghost use Rattle.transactions.specs.Standing.{IsFrameOf};
+ghost use Rattle.transactions.specs.Standing.{IsFrameOf, AreFramesOf};
 ghost use Rattle.cut_core.specs.Calls.{IsBuilt, TakesSteps, event_of};
 ghost use Rattle.object_graph.specs.declared.calls.Refusal.TheVariants.{Memory as NoMemory};
 ghost use Rattle.object_graph.specs.declared.calls.Phase.TheVariants.{Closed as ClosedPhase};
@@ -280,6 +280,7 @@ impl<D: Disk> Core<D> {
         ensures lawful { IsLawful self.now.world }
         // In each phase its cut is sound for what it is used for.
         ensures cut { IsStanding self.now.world self.now.beside }
+        ensures frames { AreFramesOf self.now.world self.now.frames }
         ensures now { IfSome (D.content self.now.disk) (λ file. (image : List ℕ) → D.may_leave self.now.disk image → StandsForWorld image self.now.world) }
     {
         let _store = &self.store;

@@ -443,3 +443,70 @@ fn a_copy_of_a_written_page_has_the_committed_image(rt: HostRuntime) -> Result<(
     assert_eq!(rt; images(&mut core, 0), Some((true, true, false)));
     Ok(())
 }
+
+// ---- the pages touched
+
+/// The first pages touched of a store of two.
+type Pages = [Option<u32>; 2];
+
+const NONE: Pages = [None, None];
+
+const BOTH: Pages = [Some(0), Some(1)];
+
+fn one(page: u32) -> Pages {
+    [Some(page), None]
+}
+
+/// The first reply of a script that differs, or pages touched, with their place.
+fn touches_otherwise<D: Disk>(
+    core: &mut Core<D>,
+    script: &[(Call, Reply, Pages)],
+) -> Option<(usize, Reply, Pages)> {
+    for at in 0..script.len() {
+        let reply = reply_to(core, &script[at].0);
+        let pages = [core.touched(0), core.touched(1)];
+        if reply != script[at].1 || pages != script[at].2 || core.touched(2).is_some() {
+            return Some((at, reply, pages));
+        }
+    }
+    None
+}
+
+#[test]
+fn the_pages_touched_are_those_of_the_last_call(rt: HostRuntime) -> Result<(), Fail> {
+    let mut core = fresh(rt.alloc(), 2, Vec::new(rt.alloc()))?;
+    let first = first_in(1, 0);
+    let script = [
+        (begin(1), Reply::Done, NONE),
+        (put(1, ROOT, 5), Reply::Done, one(0)),
+        (new(1, 1), made(first), one(1)),
+        (put(2, ROOT, 6), refused(Refusal::NotOpen), NONE),
+        (put(1, first, 7), Reply::Done, one(1)),
+        (number(1, ROOT), num(5), NONE),
+        (commit(1), committed(1), BOTH),
+        (begin(2), Reply::Done, NONE),
+        (new(2, 1), made(first_in(1, 1)), one(1)),
+        (Call::OpenCut, cut(1), NONE),
+        (copy(0), Reply::Done, NONE),
+        (abort(2), Reply::Done, one(1)),
+        (abort(2), refused(Refusal::NotOpen), NONE),
+        (copy(1), Reply::Done, NONE),
+        (Call::Close, Reply::Done, NONE),
+        (Call::Reopen, reopened(1), BOTH),
+        (Call::DropCut, refused(Refusal::NoCut), NONE),
+    ];
+    assert_eq!(rt; touches_otherwise(&mut core, &script), None);
+    Ok(())
+}
+
+#[test]
+fn a_commit_in_doubt_touches_nothing(rt: HostRuntime) -> Result<(), Fail> {
+    let mut core = failing(rt.alloc(), 1)?;
+    let script = [
+        (begin(1), Reply::Done, NONE),
+        (put(1, ROOT, 5), Reply::Done, one(0)),
+        (commit(1), refused(Refusal::DiskFault), NONE),
+    ];
+    assert_eq!(rt; touches_otherwise(&mut core, &script), None);
+    Ok(())
+}

@@ -1,5 +1,6 @@
 //! The pages whose frames the last call changed.
 ghost use Rattle.std.specs.Prelude.{◌≡◌, [], IfOk, slice_get};
+ghost use Rattle.object_graph.specs.Slots.{below};
 ghost use Rattle.transactions.specs.Tables.{IsAscending, entry_of, pages_in};
 ghost use Rattle.cut_core.specs.Touched.{frees_some, pages_ended, touched_after};
 
@@ -49,6 +50,13 @@ fn is_freeing(reply: &Reply) -> bool
     }
 }
 
+/// The page at this place of all, of which there are so many.
+fn page_of_all(count: u32, at: u32) -> Option<u32>
+    ensures { result ≡ slice_get (below count) at }
+{
+    (at < count).then_some(at)
+}
+
 impl Touched {
     /// Before the first call nothing is touched.
     pub fn with_room(alloc: Global) -> Result<Touched, Memory>
@@ -79,6 +87,7 @@ impl Touched {
         }
     }
 
+    /// Takes the pages that a transaction wrote.
     fn take_written(&mut self, transactions: &Transactions, txn: u32)
         ensures pages { self.new ≡ pages_in (entry_of transactions.now.table txn) }
         ensures ascending { IsAscending self.new }
@@ -126,9 +135,9 @@ impl Touched {
     {
         match self.change {
             Change::Nothing => None,
-            Change::One { page } => { if at == 0 { Some(page) } else { None } }
+            Change::One { page } => (at == 0).then_some(page),
             Change::Written => self.written.get(at as usize).copied(),
-            Change::All { count } => { if at < count { Some(at) } else { None } }
+            Change::All { count } => page_of_all(count, at),
         }
     }
 }
