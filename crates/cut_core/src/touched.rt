@@ -20,8 +20,8 @@ pub enum Change {
     All { count: u32 },
 }
 
-/// The pages whose frames the last call changed, ascending. All memory is taken by `with_room`; but for
-/// the end of a transaction a call costs one write.
+/// The pages whose frames the last call changed, ascending. All memory is taken by `with_room`, and only
+/// the end of a transaction copies pages.
 #[derive(Drop)]
 pub struct Touched {
     change: Change,

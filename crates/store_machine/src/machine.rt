@@ -157,6 +157,12 @@ impl<D: Disk> Machine<D> {
         self.core.broken()
     }
 
+    /// The page at this place of those whose frames the last call changed.
+    #[cfg(test)]
+    pub fn touched(&self, at: u32) -> Option<u32> {
+        self.core.touched(at)
+    }
+
     /// The disk.
     pub fn into_disk(self) -> D
         ensures { result ≡ self.disk }

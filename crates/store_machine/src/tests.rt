@@ -61,11 +61,14 @@ fn a_collection_has_its_calls_in_order(rt: HostRuntime) -> Result<(), Fail> {
     Ok(())
 }
 
+/// The reply to a call of a collection, and the first page that it touched.
+type Answer = (Reply, Option<u32>);
+
 /// Whether each call of a collection by two workers is answered so, in order.
 fn are_answered<T: Threads + Sync, L: Ledger>(
     threads: &T,
     machine: &mut Machine<MemDisk>,
-    replies: &[Reply],
+    answers: &[Answer],
     blank: Blank,
 ) -> bool
     requires name { blank.name ≡ L.name }
@@ -74,11 +77,11 @@ fn are_answered<T: Threads + Sync, L: Ledger>(
 {
     let mut steps: Steps<L> = Steps::new(blank);
     let mut place: u64 = 0;
-    for reply in replies {
+    for answer in answers {
         let Some(call) = collection_call(2, 2, place) else {
             return false;
         };
-        if machine.answer(threads, call, &mut steps) != *reply {
+        if machine.answer(threads, call, &mut steps) != answer.0 || machine.touched(0) != answer.1 {
             return false;
         }
         place = place.saturating_add(1);
@@ -86,27 +89,54 @@ fn are_answered<T: Threads + Sync, L: Ledger>(
     true
 }
 
-/// The reply to a sweep that freed nothing.
-fn none_freed() -> Reply {
-    Reply::Freed {
+/// Commits an object on page 1 to which nothing refers.
+fn leave_garbage<T: Threads + Sync, L: Ledger>(
+    threads: &T,
+    machine: &mut Machine<MemDisk>,
+    blank: Blank,
+) -> Reply
+    requires name { blank.name ≡ L.name }
+    requires parts { blank.parts ≡ L.parts }
+    requires some { 0 < blank.parts }
+{
+    let mut steps: Steps<L> = Steps::new(blank);
+    let _begun = machine.answer(threads, Call::Begin { txn: 1 }, &mut steps);
+    let _made = machine.answer(threads, Call::New { txn: 1, page: 1 }, &mut steps);
+    machine.answer(threads, Call::Commit { txn: 1 }, &mut steps)
+}
+
+/// The answers of a collection of two pages in which sweeps free these slots of page 1.
+fn answers_of(slots: SlotSet, touched: Option<u32>) -> [Answer; 8] {
+    let none = Reply::Freed {
         slots: SlotSet::empty(),
-    }
+    };
+    [
+        (Reply::Cut { number: 1 }, None),
+        (Reply::Done, None),
+        (Reply::Done, None),
+        (Reply::Done, None),
+        (Reply::Done, None),
+        (none, None),
+        (Reply::Freed { slots }, touched),
+        (Reply::Done, None),
+    ]
 }
 
 #[test]
 fn a_store_without_garbage_is_collected(rt: HostRuntime) -> Result<(), Fail> {
     let mut machine = fresh(rt.alloc())?;
-    let replies = [
-        Reply::Cut { number: 1 },
-        Reply::Done,
-        Reply::Done,
-        Reply::Done,
-        Reply::Done,
-        none_freed(),
-        none_freed(),
-        Reply::Done,
-    ];
-    assert!(rt; are_answered::<_, Brand>(&rt, &mut machine, &replies, Blank::new(1)));
+    let answers = answers_of(SlotSet::empty(), None);
+    assert!(rt; are_answered::<_, Brand>(&rt, &mut machine, &answers, Blank::new(1)));
+    Ok(())
+}
+
+#[test]
+fn a_sweep_that_frees_touches_its_page(rt: HostRuntime) -> Result<(), Fail> {
+    let mut machine = fresh(rt.alloc())?;
+    let committed = Reply::Committed { commits: 1 };
+    assert!(rt; leave_garbage::<_, Brand>(&rt, &mut machine, Blank::new(1)) == committed);
+    let answers = answers_of(SlotSet::empty().with(0), Some(1));
+    assert!(rt; are_answered::<_, Brand>(&rt, &mut machine, &answers, Blank::new(1)));
     Ok(())
 }
 
