@@ -1,18 +1,23 @@
 -- A record behind the last one: what a crash leaves meanwhile, and what the area holds in the end.
-use Rattle.std.proofs.Common.{◌≡◌, inl, inr, ℕ, ◌+◌, ◌-◌, ◌*◌, ◌≤◌, ◌<◌, ◌^◌, List, [], ◌∷◌, length, take, drop, refl, sym, ◌∙◌, ap, subst, arith, length-append}
-use Rattle.std.specs.Prelude.{Option, Some, IfSome, IsSomeAnd}
-use Rattle.std.specs.List.{AllByRecursion}
+use Rattle.std.proofs.Common.{◌≡◌, inl, inr, ℕ, ◌+◌, ◌-◌, ◌*◌, ◌≤◌, ◌<◌, ◌^◌, List, [], ◌∷◌, ◌++◌, length, take, drop, refl, sym, ◌∙◌, ap, subst, arith, length-append}
+use Rattle.std.specs.Prelude.{Option, Some, None, IfSome, IsSomeAnd}
+use Rattle.std.specs.List.{All, AllByRecursion}
+use Rattle.std.proofs.lemmas.List.Elements.{All-append}
 use Rattle.std.proofs.lemmas.Option.{same_Some}
 use Rattle.std.proofs.lemmas.List.{take-take, drop-drop}
 use Rattle.disk_trait.specs.Disk.{written, Torn}
 use Rattle.disk_trait.specs.NoteLaws.{length-written, torn_written}
-use Rattle.redo_journal.specs.Area.{IsStaged, area_start}
+use Rattle.redo_journal.specs.Area.{IsStaged, area_start, first_gate}
 use Rattle.redo_journal.specs.Gated.{TornBehind, behind_open}
 use Rattle.redo_journal.specs.Journals.{JournalParts, IsJournal, HoldsFor, IsAppendedOrNot, IsAppended, appended, need_of, left_of}
-use Rattle.redo_journal.specs.Record.{RecordParts, IsRecordOf, ReadsBack, grammar, size_of, record_bytes, spelled_with_gate}
-use Rattle.redo_journal.specs.Walk.{weights}
+use Rattle.redo_journal.specs.Places.{places_of, places_in, IsPlace}
+use Rattle.redo_journal.specs.Record.{RecordParts, IsRecordOf, ReadsBack, grammar, size_of, commits_of, record_bytes, spelled_with_gate}
+use Rattle.redo_journal.specs.Walk.{weights, taken}
+use Rattle.redo_journal.specs.declared.places.ImagePlace.{ImagePlace}
+use Rattle.redo_journal.specs.declared.kind.Kind.{Kind}
 use Rattle.redo_journal.specs.declared.kind.Kind.TheVariants.{Commit, Sweep}
 use Rattle.redo_journal.proofs.Spelled.{spelled_record, length-record}
+use Rattle.redo_journal.proofs.PlaceLaws.{places_more, places_right, length-places}
 use Rattle.redo_journal.proofs.FileLaws.{at_any_moment, in_the_end, taken-push, weights-push}
 use Rattle.redo_journal.proofs.GrammarLaws.{grammar_is_local, grammar-size, grammar-weight}
 use Rattle.redo_journal.specs.declared.sizes.TheConstants.{AREA_SIZE, IMAGE_SIZE, FRAME_SIZE}
@@ -100,6 +105,15 @@ module _ (j : JournalParts) (rs : List RecordParts) (new : RecordParts) (file : 
   size_is : size_of new ≡ (grammar j.pages).size new + 1
   size_is = omega (arith, grammar-size j.pages new)
 
+  gate_is : area_start j.area + first_gate + taken (grammar j.pages) rs + FRAME_SIZE ≡ gate + FRAME_SIZE
+  gate_is = omega (arith, h.end)
+
+  places_after : j.places ++ places_of (gate + FRAME_SIZE) new.images ≡ places_in (area_start j.area + first_gate) (rs ++ new ∷ [])
+  places_after =
+      ap (λ (l : List ImagePlace). l ++ places_of (gate + FRAME_SIZE) new.images) h.places
+      ∙ ap (λ (n : ℕ). places_in (area_start j.area + first_gate) rs ++ places_of n new.images) (sym gate_is)
+      ∙ sym (places_more j.pages (area_start j.area + first_gate) rs new)
+
   pub afterwards : IsAppended (appended new j) rs new file (behind_open gate bytes file)
   afterwards = record {
     elsewhere = inside (behind_open gate bytes file) (inr ended);
@@ -107,5 +121,25 @@ module _ (j : JournalParts) (rs : List RecordParts) (new : RecordParts) (file : 
       holds = in_the_end (grammar j.pages) (grammar_is_local j.pages) j.area j.base rs file h.holds j.end h.end new bytes behind gate refl room (behind_open gate bytes file) refl;
       end = omega (arith, h.end, size_is, taken-push (grammar j.pages) rs new);
       commits = omega (arith, h.commits, grammar-weight j.pages new, weights-push (grammar j.pages) rs new);
+      places = places_after;
     };
   }
+
+-- ---- the journal after it
+
+counted_after : (base commits more : ℕ) (kind : Kind) → base + commits ≤ MOST_COUNTED → more ≡ commits + commits_of kind → (kind ≡ Commit → base + commits < MOST_COUNTED) → base + more ≤ MOST_COUNTED
+counted_after base commits more Commit few is unspent = omega (arith, is, unspent refl)
+counted_after base commits more Sweep few is unspent = omega (arith, few, is)
+
+pub still_journal : (old : JournalParts) (r : RecordParts) (commits end from : ℕ) (places : List ImagePlace) → IsJournal old → IsRecordOf old.pages r → (r.kind ≡ Commit → old.base + old.commits < MOST_COUNTED)
+    → commits ≡ old.commits + commits_of r.kind → end ≡ old.end + size_of r → end < AREA_SIZE → from ≡ area_start old.area + old.end + FRAME_SIZE → places ≡ old.places ++ places_of from r.images
+    → IsJournal (record old { commits = commits; end = end; places = places; staged = None })
+still_journal old r commits end from places keeps is unspent commits_is end_is within from_is places_is = record {
+  area = keeps.area;
+  within = within;
+  counted = counted_after old.base old.commits commits r.kind keeps.counted commits_is unspent;
+  places = subst (All (IsPlace old.pages)) (sym places_is)
+      (All-append (IsPlace old.pages) old.places (places_of from r.images) keeps.places (places_right old.pages from r.images is.below (omega (arith, keeps.area, from_is, end_is, within))));
+  room = omega (arith, keeps.room, end_is, ap length places_is, length-append old.places (places_of from r.images), length-places from r.images);
+  staged = tt;
+}

@@ -5,7 +5,6 @@ pub mod GrammarLaws
 pub mod HomeBytes
 pub mod HomeImages
 pub mod HomeMoments
-pub mod HomeRecords
 pub mod HomeRuns
 pub mod HomeWalks
 pub mod ImageReads
@@ -13,6 +12,7 @@ pub mod ImageSteps
 pub mod LastImages
 pub mod Laying
 pub mod Moments
+pub mod PlaceLaws
 pub mod ScanSteps
 pub mod Spelled
 pub mod Turning

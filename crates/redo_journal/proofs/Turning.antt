@@ -37,11 +37,12 @@ empty_holds g area base file small long =
     }
 
 -- a journal stands for an empty area with its base
-pub empty_stands_for : (journal : JournalParts) (at : ℕ) (content : Option (List ℕ)) (file : List ℕ) → journal.base ≤ MOST_COUNTED → journal.commits ≡ 0 → journal.end ≡ first_gate
+pub empty_stands_for : (journal : JournalParts) (at : ℕ) (content : Option (List ℕ)) (file : List ℕ) → journal.base ≤ MOST_COUNTED → journal.commits ≡ 0 → journal.end ≡ first_gate → journal.places ≡ []
     → at ≡ area_start journal.area → area_start journal.area + AREA_SIZE ≤ length file → content ≡ Some (written at (empty_area journal.base) file) → IsSomeAnd content (HoldsFor journal [])
-empty_stands_for journal at content file small none end at_is long is =
+empty_stands_for journal at content file small none end no_places at_is long is =
     subst (λ (o : Option (List ℕ)). IsSomeAnd o (HoldsFor journal [])) (sym (is ∙ ap (λ (a : ℕ). Some (written a (empty_area journal.base) file)) at_is)) (record {
       holds = empty_holds (grammar journal.pages) journal.area journal.base file small long;
       end = end;
       commits = none;
+      places = no_places;
     })

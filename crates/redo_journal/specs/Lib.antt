@@ -3,6 +3,7 @@ pub mod Gated
 pub mod Homes
 pub mod Journals
 pub mod Judging
+pub mod Places
 pub mod Record
 pub mod Replays
 pub mod Results

@@ -14,6 +14,7 @@ use crate::area::{read_area, start_of};
 use crate::faults::{AppendFault, AreaFault};
 use crate::gated::write_record;
 use crate::kind::Kind;
+use crate::places::{ImagePlace, note};
 use crate::replay::Replay;
 use crate::scan::{counted, scan};
 use crate::sizes::{AREA_SIZE, FRAME_SIZE, IMAGE_SIZE, LONGEST_RECORD};
@@ -34,6 +35,8 @@ pub struct Journal {
     pub(crate) commits: u64,
     /// Where the first closed gate stands, from the area's beginning.
     pub(crate) end: u64,
+    /// Where the counted images stand, oldest first.
+    pub(crate) places: Vec<ImagePlace>,
     /// The kind of the staged record, if there is one, and its images.
     pub(crate) kind: Option<Kind>,
     pub(crate) images: Vec<Page>,
@@ -45,14 +48,14 @@ impl Model for Journal {
     ghost use Rattle.std.specs.Prelude.{◌≡◌, ◌≤◌, length, vec_capacity};
     ghost use Rattle.object_graph.specs.declared.limits.TheConstants.{MOST_WRITTEN};
     ghost use Rattle.redo_journal.specs.Journals.{JournalParts, IsJournal, staged_of};
-    ghost use Rattle.redo_journal.specs.declared.sizes.TheConstants.{LONGEST_RECORD};
+    ghost use Rattle.redo_journal.specs.declared.sizes.TheConstants.{LONGEST_RECORD, MOST_IMAGES};
 
     ghost Value = { JournalParts };
 
-    ghost view = { λ j. record { area = j.area; pages = j.pages; base = j.base; commits = j.commits; end = j.end; staged = staged_of j.kind j.images.items } };
+    ghost view = { λ j. record { area = j.area; pages = j.pages; base = j.base; commits = j.commits; end = j.end; places = j.places.items; staged = staged_of j.kind j.images.items } };
 
-    ghost invariant = { λ j. IsJournal (record { area = j.area; pages = j.pages; base = j.base; commits = j.commits; end = j.end; staged = staged_of j.kind j.images.items })
-        × (MOST_WRITTEN ≤ vec_capacity j.images) × (length j.buffer.items ≡ LONGEST_RECORD) };
+    ghost invariant = { λ j. IsJournal (record { area = j.area; pages = j.pages; base = j.base; commits = j.commits; end = j.end; places = j.places.items; staged = staged_of j.kind j.images.items })
+        × (MOST_IMAGES ≤ vec_capacity j.places) × (MOST_WRITTEN ≤ vec_capacity j.images) × (length j.buffer.items ≡ LONGEST_RECORD) };
 }
 
 /// Room for a record: its images and its bytes.
@@ -105,6 +108,7 @@ impl Journal {
             base: found.replay.base,
             commits: found.replay.commits,
             end: found.end,
+            places: found.places,
             kind: None,
             images,
             buffer,
@@ -216,6 +220,7 @@ impl Journal {
         };
         let gate = start_of(self.area) + self.end;
         write_record(disk, gate, kind, &self.images, &mut self.buffer)?;
+        note(&mut self.places, &self.images, gate + FRAME_SIZE as u64);
         self.commits += counted(kind);
         self.end += need;
         self.kind = None;

@@ -10,6 +10,7 @@ mod gated;
 mod home;
 mod journal;
 mod kind;
+mod places;
 mod replay;
 mod scan;
 mod sizes;
@@ -25,5 +26,6 @@ pub use journal::Journal;
 pub use kind::Kind;
 pub use replay::Replay;
 pub use sizes::{
-    AREA_SIZE, FRAME_SIZE, HEAD_SIZE, HOMES_START, IMAGE_SIZE, LONGEST_RECORD, PAGE_SIZE,
+    AREA_SIZE, FRAME_SIZE, HEAD_SIZE, HOMES_START, IMAGE_SIZE, LONGEST_RECORD, MOST_IMAGES,
+    PAGE_SIZE,
 };

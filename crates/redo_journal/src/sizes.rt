@@ -22,3 +22,6 @@ pub const FRAME_SIZE: usize = 6;
 
 /// The bytes of the longest record with its gate.
 pub const LONGEST_RECORD: usize = FRAME_SIZE + IMAGE_SIZE * MOST_WRITTEN;
+
+/// How many images an area has at most, since each takes so many bytes of it.
+pub const MOST_IMAGES: usize = AREA_SIZE as usize / IMAGE_SIZE;

@@ -69,6 +69,7 @@ impl Journal {
         self.base = commits;
         self.commits = 0;
         self.end = 8;
+        self.places.clear();
         Ok(())
     }
 }

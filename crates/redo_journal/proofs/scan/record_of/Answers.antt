@@ -37,4 +37,5 @@ returns-clause-read c =
       read.2,
       read.3,
       read.4,
+      read.5,
     )

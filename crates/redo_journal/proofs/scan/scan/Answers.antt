@@ -1,17 +1,23 @@
-use Rattle.std.proofs.Common.{◌≡◌, ℕ, List, [], ◌∷◌, ◌++◌, ◌+◌, ◌*◌, ◌<◌, ◌≤◌, length, drop, Result, Ok, refl, sym, ◌∙◌, ap, subst, arith, length-drop}
+use Rattle.std.proofs.Common.{◌≡◌, ℕ, List, [], ◌∷◌, ◌++◌, ◌+◌, ◌*◌, ◌<◌, ◌≤◌, length, drop, Result, Ok, refl, sym, ◌∙◌, ap, subst, arith, length-append, length-drop}
+use Rattle.std.specs.List.{All}
 use Rattle.std.proofs.lemmas.List.{flat_map_more}
+use Rattle.std.proofs.lemmas.List.Elements.{All-nil}
 use Rattle.std.proofs.lemmas.List.Sums.{sum_by_push}
 use Rattle.std.proofs.lemmas.Result.{err_from_is_err_and}
 use Rattle.page_image.specs.Pages.{PageParts}
 use Rattle.redo_journal.specs.Judging.{IsFaultIn}
-use Rattle.redo_journal.specs.Walk.{walk}
+use Rattle.redo_journal.specs.Area.{first_gate}
+use Rattle.redo_journal.specs.Places.{IsPlace, places_of, places_in}
+use Rattle.redo_journal.specs.Walk.{walk, taken}
 use Rattle.redo_journal.specs.Record.{RecordParts, record_at, grammar, commits_of}
 use Rattle.redo_journal.specs.Replays.{AreLatest, IsLaidOver, images_in}
+use Rattle.redo_journal.specs.declared.places.ImagePlace.{ImagePlace}
 use Rattle.redo_journal.specs.declared.kind.Kind.{Kind}
 use Rattle.redo_journal.specs.declared.kind.Kind.TheVariants.{Commit, Sweep}
 use Rattle.redo_journal.proofs.FileLaws.{taken-push}
 use Rattle.redo_journal.proofs.GrammarLaws.{grammar-at, grammar-size, grammar-weight}
 use Rattle.redo_journal.proofs.Laying.{laid_nothing, laid_more}
+use Rattle.redo_journal.proofs.PlaceLaws.{places_more, length-places}
 use Rattle.redo_journal.proofs.ScanSteps.{scan_more, scan_fault, scan_closed, area_walk, area_fault, walk_drop}
 use Rattle.redo_journal.proofs.WalkLaws.{with_front-nil}
 use Rattle.redo_journal.proofs.scan.scan.Goals as goal
@@ -48,6 +54,10 @@ loop-end-init c =
       unspent = omega (arith, c.if-base-gt-MOST_COUNTED.false);
       laid = subst (λ (xs : List PageParts). IsLaidOver [] [] xs) (sym c.new-images.ensures.items) (laid_nothing []);
       kept = none_latest c.args.pages c.new-images.result.items c.new-images.ensures.items;
+      noted = c.in-Ok.ensures.items;
+      places = subst (All (IsPlace c.args.pages)) (sym c.in-Ok.ensures.items) (All-nil (IsPlace c.args.pages));
+      room = omega (arith, ap length c.in-Ok.ensures.items);
+      reserved = omega (arith, c.in-Ok.ensures.capacity);
     }
 
 pub loop-end-preserved : goal.loop-end-preserved
@@ -65,6 +75,7 @@ loop-end-preserved c =
     ∙ ap (λ (x : List ℕ). record_at c.args.pages (c.args.start + l.end + 1) (base + l.commits) x) (sym c.split_at.ensures.back) ∙ read.1 in
     let size_is : FRAME_SIZE + IMAGE_SIZE * head.count ≡ g.size r + 1 = omega (arith, grammar-size c.args.pages r, read.2) in
     let weight_is : c.counted-commits.result ≡ g.weight r = c.counted-commits.ensures ∙ sym (grammar-weight c.args.pages r) in
+    let place_is : c.args.start + l.end + 1 + 5 ≡ c.args.start + first_gate + taken g i.front + FRAME_SIZE = omega (arith, i.end_is) in
     let room : l.end + (FRAME_SIZE + IMAGE_SIZE * head.count) < AREA_SIZE = omega (arith, c.in_ok-head.ensures.room, ap length c.split_at.ensures.back, length-drop (l.end + 1) c.args.bytes.now, c.requires.whole) in
     record {
       front = i.front ++ r ∷ [];
@@ -78,6 +89,12 @@ loop-end-preserved c =
           subst (λ (xs : List PageParts). IsLaidOver xs [] c.record_of.new.latest.items) (flat_map_more (λ (q : RecordParts). q.images) [] i.front r)
           (laid_more (images_in i.front) read.0 [] l.images.items c.record_of.new.latest.items i.laid read.3);
       kept = read.4;
+      noted = read.5 ∙ ap (λ (old : List ImagePlace). old ++ places_of (c.args.start + l.end + 1 + 5) read.0) i.noted
+          ∙ ap (λ (n : ℕ). places_in (c.args.start + first_gate) i.front ++ places_of n read.0) place_is
+          ∙ sym (places_more c.args.pages (c.args.start + first_gate) i.front r);
+      places = c.in_ok-head.ensures.places;
+      room = omega (arith, i.room, ap length read.5, length-append l.places.items (places_of (c.args.start + l.end + 1 + 5) read.0), length-places (c.args.start + l.end + 1 + 5) read.0, read.2);
+      reserved = omega (arith, i.reserved, c.in_ok-head.ensures.reserved);
     }
 
 pub returns-in_err-head-clause-read : goal.returns-in_err-head-clause-read
@@ -108,4 +125,5 @@ returns-clause-read c =
       i.end_is,
       i.commits_are,
       i.laid,
+      i.noted,
     )

@@ -1,6 +1,7 @@
 use Rattle.std.proofs.Common.{◌≡◌, ℕ, List, ◌+◌, ◌*◌, ◌<◌, ◌≤◌, length, Result, Err, sym, ◌∙◌, ap, arith}
 use Rattle.std.proofs.lemmas.Result.{err_from_is_err_and}
-use Rattle.redo_journal.specs.Area.{read_area, area_of}
+use Rattle.redo_journal.specs.Area.{read_area, area_of, first_gate}
+use Rattle.redo_journal.specs.Places.{places_in}
 use Rattle.redo_journal.specs.Record.{grammar}
 use Rattle.redo_journal.specs.Replays.{images_in}
 use Rattle.redo_journal.specs.declared.faults.AreaFault.{AreaFault}
@@ -36,6 +37,7 @@ returns-clause-found g c =
         holds = record { long = within a.area a.pages (g.D.Disk.size a.disk.now) (length d) c.requires.which c.requires.long (g.met.D.Disk.told_whole a.disk.now d told); reads = here };
         end = read.2;
         commits = read.3 ∙ sym (weights-commits a.pages read.0);
+        places = read.5 ∙ ap (λ (s : ℕ). places_in (s + first_gate) read.0) c.start_of.ensures;
       },
       record {
         commits = read.3;
