@@ -112,7 +112,7 @@ on_ok_of (Err e) A B C P f a b c = tt
 -- the store is the journal's, whatever it has staged
 pub own_staged : (journal : JournalParts) (r : Option RecordParts) (file : List ℕ) → IsStoreOf journal file → IsStoreOf (record journal { staged = r }) file
 own_staged journal r file own =
-    (own.0, record { active = own.1.active; holds = record { holds = own.1.holds.holds; end = own.1.holds.end; commits = own.1.holds.commits } })
+    (own.0, record { active = own.1.active; holds = record { holds = own.1.holds.holds; end = own.1.holds.end; commits = own.1.holds.commits; places = own.1.holds.places } })
 
 pub keeps_staged : (journal next : JournalParts) (r : Option RecordParts) (outcomes : List ℕ → Type 0) (s : State) (file : List ℕ) → next ≡ record journal { staged = r } → KeepsState journal outcomes s file
     → KeepsState next outcomes s file

@@ -50,6 +50,7 @@ own_beside journal records size file other own few torn =
         };
         end = own.holds.end;
         commits = own.holds.commits;
+        places = own.holds.places;
       };
     }
 
@@ -80,6 +81,7 @@ own_switched journal records file area head holds small =
         };
         end = holds.end;
         commits = holds.commits;
+        places = holds.places;
       };
     }
 

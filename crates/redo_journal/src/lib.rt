@@ -19,6 +19,8 @@ mod spelling;
 mod tests;
 #[cfg(test)]
 mod tests_home;
+#[cfg(test)]
+mod tests_untold;
 mod turn;
 
 pub use faults::{AppendFault, AreaFault};

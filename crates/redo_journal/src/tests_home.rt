@@ -111,18 +111,17 @@ struct Sent {
     left: [(Home, Home); 6],
 }
 
-/// Call 11 opens the area. Then the count of a record is read, and for each of its pages the number
-/// and the image are read and the image is written: 12 to 18 for the first record, 19 to 22 for the
-/// second. Call 23 is the sync.
+/// Call 11 opens the area. Then each image is read and written: 12 to 15 for the first record, 16 and
+/// 17 for the second. Call 18 is the sync.
 const SENT: [Sent; 5] = [
     Sent {
         first: 12,
-        last: 15,
+        last: 13,
         left: [(Zeros, Zeros); 6],
     },
     Sent {
-        first: 16,
-        last: 18,
+        first: 14,
+        last: 15,
         left: [
             (Zeros, Zeros),
             (Empty, Zeros),
@@ -133,32 +132,32 @@ const SENT: [Sent; 5] = [
         ],
     },
     Sent {
+        first: 16,
+        last: 17,
+        left: [
+            (Zeros, Zeros),
+            (Empty, Empty),
+            (Torn, Torn),
+            (Empty, Zeros),
+            (Empty, Empty),
+            (Empty, Torn),
+        ],
+    },
+    Sent {
+        first: 18,
+        last: 18,
+        left: [
+            (Zeros, Zeros),
+            (Empty, Object),
+            (Torn, Torn),
+            (Empty, Zeros),
+            (Empty, Object),
+            (Empty, Torn),
+        ],
+    },
+    Sent {
         first: 19,
-        last: 22,
-        left: [
-            (Zeros, Zeros),
-            (Empty, Empty),
-            (Torn, Torn),
-            (Empty, Zeros),
-            (Empty, Empty),
-            (Empty, Torn),
-        ],
-    },
-    Sent {
-        first: 23,
-        last: 23,
-        left: [
-            (Zeros, Zeros),
-            (Empty, Object),
-            (Torn, Torn),
-            (Empty, Zeros),
-            (Empty, Object),
-            (Empty, Torn),
-        ],
-    },
-    Sent {
-        first: 24,
-        last: 24,
+        last: 19,
         left: [(Empty, Object); 6],
     },
 ];
@@ -172,7 +171,7 @@ fn crash_after_sending(
     let alloc = rt.alloc();
     let mut disk = MemDisk::new(alloc, TWO_PAGES, vec![in alloc; call]?)?;
     two_commits(alloc, &mut disk)?;
-    assert_eq!(rt; is_sent(alloc, &mut disk)?, call == 24, "call {call}");
+    assert_eq!(rt; is_sent(alloc, &mut disk)?, call == 19, "call {call}");
     let mut disk = disk.crash(pick)?;
     assert_eq!(rt;
         opened(alloc, &mut disk, 0),
