@@ -1,8 +1,7 @@
 -- One who holds a page exclusive is alone with it.
 use Rattle.std.proofs.Common.{◌≡◌, ◌≢◌, ℕ, Bool, true, false, ◌||◌, ◌&&◌, ◌==◌, not, List, refl, ap, sym, subst, ◌∙◌, inl, inr}
 use Rattle.std.proofs.lemmas.Bool.{and_parts, or_cases, cases_Bool, cases_eq, eq-eqb, eqb-true, ne_eqb}
-use Rattle.page_locks.specs.Holding.{shares, excludes, is_in_way, IsNobody, HaveSameLocks, AddsShared, AddsExclusive, Releases, KeepsApart}
-use Rattle.page_locks.specs.declared.locks.Held.{Held}
+use Rattle.page_locks.specs.Holding.{Held, shares, excludes, is_in_way, IsNobody, HaveSameLocks, AddsShared, AddsExclusive, Releases, KeepsApart}
 
 pub or_parts : (a b : Bool) → (a || b) ≡ false → (a ≡ false) × (b ≡ false)
 or_parts true b h = cc

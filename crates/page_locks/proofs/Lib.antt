@@ -1,3 +1,10 @@
-pub mod Any
 pub mod Apart
+pub mod Bits
+pub mod Comings
+pub mod Marked
+pub mod Modes
+pub mod Order
+pub mod Seated
 pub mod Table
+pub mod Vacating
+pub mod Way

@@ -1,120 +1,187 @@
 -- What each call keeps of a table.
-use Rattle.std.proofs.Common.{◌≡◌, ℕ, zero, suc, ◌+◌, ◌<◌, Bool, true, false, not, cond, ◌==◌, nat_eq, List, [], ◌∷◌, ◌++◌, length, filter, remove, get_or, refl, ap, sym, subst, ◌∙◌, arith, length-append}
-use Rattle.std.proofs.lemmas.List.{length-map}
-use Rattle.std.specs.List.{list_any, AllByRecursion, IsDistinct}
+use Rattle.std.proofs.Common.{◌≡◌, ◌≢◌, ℕ, zero, suc, ◌+◌, ◌<◌, ◌≤◌, Bool, true, false, not, cond, ◌==◌, ◌||◌, ◌&&◌, nat_eq, Option, Some, None, List, [], ◌∷◌, ◌++◌, length, filter, get_or, set, replicate, refl, ap, sym, subst, ◌∙◌, inl, inr, arith, length-append, get_or-set_same, get_or-set_other}
+use Rattle.std.specs.List.{list_any, AllByRecursion, IsDistinct, All}
 use Rattle.std.specs.Cmp.{nat_eq_equiv}
-use Rattle.std.proofs.lemmas.Bool.{eq-eqb}
-use Rattle.std.proofs.lemmas.List.Elements.{All-nil, All-filter, All-push, All-from_recursion, recursion_from_All}
-use Rattle.std.proofs.lemmas.Map.Keys.{IsDistinct-head, IsDistinct-tail, IsDistinct-cons, IsDistinct-push}
+use Rattle.std.proofs.lemmas.Bool.{or_cases, cases_Bool, cases_eq, eq-eqb, eqb-true, ne_eqb, and_parts}
+use Rattle.std.proofs.lemmas.List.{length-map, length-set}
+use Rattle.std.proofs.lemmas.List.Folds.{list_any-append}
+use Rattle.std.proofs.lemmas.List.Elements.{All-nil, All-filter, All-push}
+use Rattle.std.proofs.lemmas.Map.Keys.{IsDistinct-push}
 use Rattle.object_graph.specs.declared.limits.TheConstants.{MOST_OPEN}
-use Rattle.page_locks.specs.Holding.{numbers, is_admitted, is_in_way, IsNobody, HaveSameLocks, AddsShared, AddsExclusive, HasRoom, HaveRoom, AreDistinct, IsTable}
-use Rattle.page_locks.specs.declared.locks.Held.{Held}
-use Rattle.page_locks.proofs.Any.{numbers-append, numbers-filter, releases}
-use Rattle.page_locks.proofs.Apart.{or_parts, apart_same, apart_shared, apart_exclusive, apart_released}
+use Rattle.page_locks.specs.Sets.{has_bit, in_set, HasRoom}
+use Rattle.page_locks.specs.Words.{word_of, is_mode, to_write, holders_at, is_held}
+use Rattle.page_locks.specs.Holding.{Held, numbers, is_in_way, IsNobody, KeepsApart, HaveSameLocks, Releases}
+use Rattle.page_locks.specs.Places.{free_seat, seat_at, number_at, may_hold, free_or_not, count_free, locks_of, numbers_in, is_among, Adds, AreSeated, AreCovered, IsTable}
+use Rattle.page_locks.specs.declared.admitted.Admitted.{Admitted}
+use Rattle.page_locks.specs.declared.holders.Holders.{Holders}
+use Rattle.page_locks.specs.declared.holders.Mode.{Mode}
+use Rattle.page_locks.specs.declared.holders.Mode.TheVariants.{Shared, Exclusive}
+use Rattle.page_locks.specs.declared.seats.Seat.{Seat}
+use Rattle.page_locks.proofs.Bits.{or_false, and_true, and_false}
+use Rattle.page_locks.proofs.Apart.{apart_same, apart_shared, apart_exclusive, apart_released}
+use Rattle.page_locks.proofs.Modes.{has_lock, has_lock-locks_of, numbers-locks_of}
+use Rattle.page_locks.proofs.Order.{numbers-append, numbers-filter, gone_away, others_among, one_less, distinct_filter, absent}
+use Rattle.page_locks.proofs.Seated.{number-set_same, number-set_other, count-set, seat_or_not, seat_of, lock_at, no_lock, same_place, some_same}
+use Rattle.page_locks.proofs.Vacating.{held-set_same, held-set_other}
 
--- ---- no transaction is admitted twice
+pub length-locks_of : (holders : List Holders) (held : List Admitted) → length (locks_of holders held) ≡ length held
+length-locks_of holders [] = refl
+length-locks_of holders (a ∷ rest) = ap suc (length-locks_of holders rest)
 
--- where one isn't admitted, all stay
-pub others_stay : (held : List Held) (gone : ℕ) → is_admitted held gone ≡ false → filter (λ h. not (h.txn == gone)) held ≡ held
-others_stay [] gone e = refl
-others_stay (h ∷ hs) gone e =
-    let p = or_parts (h.txn == gone) (is_admitted hs gone) e in
-    rw p.0 (ap (λ l. h ∷ l) (others_stay hs gone p.1))
+pub seat-set_same : (seats : List Seat) (q : ℕ) (s : Seat) → q < length seats → seat_at (set seats q s) q ≡ s
+seat-set_same seats q s lt = get_or-set_same seats q s free_seat lt
 
--- one admitted before isn't admitted after
-not_again : (held : List Held) (txn : ℕ) → AllByRecursion (λ n. nat_eq txn n ≡ false) (numbers held) → is_admitted held txn ≡ false
-not_again [] txn a = refl
-not_again (h ∷ hs) txn a = rw (nat_eq_equiv.symm h.txn txn, a.0) (not_again hs txn a.1)
+pub seat-set_other : (seats : List Seat) (q p : ℕ) (s : Seat) → p ≢ q → seat_at (set seats q s) p ≡ seat_at seats p
+seat-set_other seats q p s ne = get_or-set_other seats q p s free_seat ne
 
-number_at : (P : ℕ → Type 0) (held : List Held) (at : ℕ) (d : Held) → at < length held → AllByRecursion P (numbers held) → P (get_or held at d).txn
-number_at P [] at d lt a = absurd (omega arith)
-number_at P (h ∷ hs) zero d lt a = a.0
-number_at P (h ∷ hs) (suc at) d lt a = number_at P hs at d (omega arith) a.1
+-- ---- a lock is taken
 
--- to take one out is to keep the others
-pub remove_is_filter : (held : List Held) (at : ℕ) (d : Held) → at < length held → AreDistinct held
-    → remove held at ≡ filter (λ h. not (h.txn == (get_or held at d).txn)) held
-remove_is_filter [] at d lt distinct = absurd (omega arith)
-remove_is_filter (h ∷ hs) zero d lt distinct =
-    rw (eq-eqb h.txn h.txn refl) (sym (others_stay hs h.txn (not_again hs h.txn (IsDistinct-head nat_eq h.txn (numbers hs) distinct))))
-remove_is_filter (h ∷ hs) (suc at) d lt distinct =
-    let off : (h.txn == (get_or hs at d).txn) ≡ false =
-    number_at (λ n. nat_eq h.txn n ≡ false) hs at d (omega arith) (IsDistinct-head nat_eq h.txn (numbers hs) distinct) in
-    rw off (ap (λ l. h ∷ l) (remove_is_filter hs at d (omega arith) (IsDistinct-tail nat_eq h.txn (numbers hs) distinct)))
+-- one more bit
+module _ (holders : List Holders) (page q : ℕ) (mode : Mode) (h : Holders) (lt : page < length holders)
+  (added : (m : Mode) (r : ℕ) → has_bit (word_of m h) r ≡ (has_bit (word_of m (holders_at holders page)) r || (is_mode m mode && (r == q)))) where
+  pub held_more : (m : Mode) (p r : ℕ) → is_held m (set holders page h) p r ≡ (is_held m holders p r || (is_mode m mode && ((p == page) && (r == q))))
+  held_more m p r = elim (cases_eq p page) [
+    | inl same ↦
+        ap (λ x. is_held m (set holders page h) x r) same
+        ∙ (held-set_same m holders page r h lt
+        ∙ (added m r
+        ∙ (ap (λ b. is_held m holders page r || (is_mode m mode && (b && (r == q)))) (sym (eq-eqb p page same))
+        ∙ ap (λ x. is_held m holders x r || (is_mode m mode && ((p == page) && (r == q)))) (sym same))))
+    | inr ne ↦
+        held-set_other m holders page p r h ne
+        ∙ sym (ap (λ b. is_held m holders p r || (is_mode m mode && (b && (r == q)))) (ne_eqb p page ne)
+        ∙ (ap (λ b. is_held m holders p r || b) (and_false (is_mode m mode)) ∙ or_false (is_held m holders p r)))
+  ]
 
--- the others are distinct
-distinct_filter : (test : ℕ → Bool) (ns : List ℕ) → IsDistinct nat_eq ns → IsDistinct nat_eq (filter test ns)
-distinct_filter test [] d = d
-distinct_filter test (n ∷ ns) d =
-    one (test n) (distinct_filter test ns (IsDistinct-tail nat_eq n ns d))
-    (recursion_from_All (λ m. nat_eq n m ≡ false) (filter test ns)
-    (All-filter test (λ m. nat_eq n m ≡ false) ns (All-from_recursion (λ m. nat_eq n m ≡ false) ns (IsDistinct-head nat_eq n ns d))))
+and_swap : (a b : Bool) → (a && b) ≡ (b && a)
+and_swap true true = refl
+and_swap true false = refl
+and_swap false true = refl
+and_swap false false = refl
+
+eqb_swap : (a b : ℕ) → (a == b) ≡ (b == a)
+eqb_swap a b = nat_eq_equiv.symm a b
+
+module _ (held : List Admitted) (seats : List Seat) (old new : List Holders) (page q txn : ℕ) (mode : Mode)
+  (s : AreSeated held seats) (own : number_at seats q ≡ Some txn)
+  (more : (m : Mode) (p r : ℕ) → is_held m new p r ≡ (is_held m old p r || (is_mode m mode && ((p == page) && (r == q))))) where
+  lock_more : (m : Mode) (n p : ℕ) → has_lock m (locks_of new held) n p ≡ (has_lock m (locks_of old held) n p || (is_mode m mode && ((txn == n) && (p == page))))
+  lock_more m n p = elim (seat_or_not held seats n s) [
+    | inl f ↦
+        let is : (f.0 == q) ≡ (txn == n) = same_place held seats f.0 q n txn s f.2 own ∙ eqb_swap n txn in
+        lock_at held seats new m n p f.0 s f.2
+        ∙ (more m p f.0
+        ∙ (ap (λ b. b || (is_mode m mode && ((p == page) && (f.0 == q)))) (sym (lock_at held seats old m n p f.0 s f.2))
+        ∙ (ap (λ b. has_lock m (locks_of old held) n p || (is_mode m mode && ((p == page) && b))) is
+        ∙ ap (λ b. has_lock m (locks_of old held) n p || (is_mode m mode && b)) (and_swap (p == page) (txn == n)))))
+    | inr none ↦
+        let off : (txn == n) ≡ false = ne_eqb txn n (λ same.
+          let t : is_among (numbers_in held) txn ≡ true = s.admitted q txn own in
+          let f : is_among (numbers_in held) txn ≡ false = ap (is_among (numbers_in held)) same ∙ none in
+          let clash : true ≡ false = sym t ∙ f in cc) in
+        no_lock held new m n p none
+        ∙ sym (ap (λ b. b || (is_mode m mode && ((txn == n) && (p == page)))) (no_lock held old m n p none)
+        ∙ (ap (λ b. is_mode m mode && (b && (p == page))) off ∙ and_false (is_mode m mode)))
+  ]
+
+  same_numbers : numbers (locks_of new held) ≡ numbers (locks_of old held)
+  same_numbers = numbers-locks_of new held ∙ sym (numbers-locks_of old held)
+
+pub adds : (mode : Mode) (held : List Admitted) (seats : List Seat) (old new : List Holders) (page q txn : ℕ) → AreSeated held seats → number_at seats q ≡ Some txn
+    → ((m : Mode) (p r : ℕ) → is_held m new p r ≡ (is_held m old p r || (is_mode m mode && ((p == page) && (r == q)))))
+    → Adds mode (locks_of old held) (locks_of new held) txn page
+adds Shared held seats old new page q txn s own more = record {
+  admitted = same_numbers held seats old new page q txn Shared s own more;
+  shared = λ n p. lock_more held seats old new page q txn Shared s own more Shared n p;
+  exclusive = λ n p. lock_more held seats old new page q txn Shared s own more Exclusive n p ∙ or_false (has_lock Exclusive (locks_of old held) n p);
+}
+adds Exclusive held seats old new page q txn s own more = record {
+  admitted = same_numbers held seats old new page q txn Exclusive s own more;
+  shared = λ n p. lock_more held seats old new page q txn Exclusive s own more Shared n p ∙ or_false (has_lock Shared (locks_of old held) n p);
+  exclusive = λ n p. lock_more held seats old new page q txn Exclusive s own more Exclusive n p;
+}
+
+apart_adds : (mode : Mode) (old new : List Held) (by at : ℕ) → Adds mode old new by at → IsNobody (is_in_way (to_write mode) old by at) → KeepsApart old → KeepsApart new
+apart_adds Shared old new by at = apart_shared old new by at
+apart_adds Exclusive old new by at = apart_exclusive old new by at
+
+-- the pages of a seat change, and its number stays
+seated_same : (held : List Admitted) (seats : List Seat) (q : ℕ) (t : Seat) → q < MOST_OPEN → t.txn ≡ number_at seats q → AreSeated held seats → AreSeated held (set seats q t)
+seated_same held seats q t lt is s = record {
+  count = length-set seats q t ∙ s.count;
+  seated = λ i d l. ((s.seated i d l).0, same (get_or held i d).place ∙ (s.seated i d l).1);
+  admitted = λ place n e. s.admitted place n (sym (same place) ∙ e);
+  single = λ one other n e f. s.single one other n (sym (same one) ∙ e) (sym (same other) ∙ f);
+  distinct = s.distinct;
+  free =
+      let c = count-set seats q t within in
+      let k = ap free_or_not is in
+      let f = s.free in
+      omega (arith, c, k, f);
+}
   where
-    one : (b : Bool) → IsDistinct nat_eq (filter test ns) → AllByRecursion (λ m. nat_eq n m ≡ false) (filter test ns)
-        → IsDistinct nat_eq (cond b (n ∷ filter test ns) (filter test ns))
-    one true rest others = IsDistinct-cons nat_eq n (filter test ns) others rest
-    one false rest others = rest
+    within : q < length seats
+    within = let c = s.count in omega (arith, c)
 
-absent : (held : List Held) (txn : ℕ) → is_admitted held txn ≡ false → list_any (nat_eq txn) (numbers held) ≡ false
-absent [] txn e = refl
-absent (h ∷ hs) txn e =
-    let p = or_parts (h.txn == txn) (is_admitted hs txn) e in
-    rw (nat_eq_equiv.symm txn h.txn, p.0) (absent hs txn p.1)
+    same : (p : ℕ) → number_at (set seats q t) p ≡ number_at seats p
+    same p = elim (cases_eq p q) [
+      | inl here ↦ ap (number_at (set seats q t)) here ∙ (number-set_same seats q t within ∙ (is ∙ ap (number_at seats) (sym here)))
+      | inr ne ↦ number-set_other seats q p t ne
+    ]
 
-as_many : (old new : List Held) → numbers new ≡ numbers old → length new ≡ length old
-as_many old new e = sym (length-map new (λ (h : Held). h.txn)) ∙ (ap length e ∙ length-map old (λ (h : Held). h.txn))
-
--- ---- the calls
-
-nobody : IsDistinct nat_eq []
-unfolding IsDistinct
-nobody = tt
-
-pub table_starts : (pages : ℕ) (idle : List Held) → length idle ≡ MOST_OPEN → HaveRoom pages idle → IsTable pages [] idle
-table_starts pages idle count room = record {
-  whole = omega (arith, count);
-  held_room = All-nil (HasRoom pages);
-  idle_room = room;
-  distinct = nobody;
-  apart = λ one other page e ne. cc;
+covered_more : (pages : ℕ) (old new : List Holders) (seats : List Seat) (page q txn : ℕ) (mode : Mode) (t : Seat) → q < length seats
+    → number_at seats q ≡ Some txn → t.txn ≡ Some txn → length new ≡ length old
+    → ((p : ℕ) → in_set t.pages p ≡ (may_hold seats q p || (p == page))) → length t.pages ≡ length (seat_at seats q).pages
+    → ((m : Mode) (p r : ℕ) → is_held m new p r ≡ (is_held m old p r || (is_mode m mode && ((p == page) && (r == q)))))
+    → AreCovered pages old seats → AreCovered pages new (set seats q t)
+covered_more pages old new seats page q txn mode t lt own is as_long noted as_wide more c = record {
+  count = as_long ∙ c.count;
+  covered = λ m p r low e. elim (or_cases (is_held m old p r) (is_mode m mode && ((p == page) && (r == q))) (sym (more m p r) ∙ e)) [
+    | inl o ↦ grows r p (c.covered m p r low o)
+    | inr n ↦
+        let both = and_parts (p == page) (r == q) (and_parts (is_mode m mode) ((p == page) && (r == q)) n).1 in
+        ap (λ k. may_hold (set seats q t) k p) (eqb-true r q both.1) ∙ (at_own p ∙ (ap (λ b. may_hold seats q p || b) both.0 ∙ or_true (may_hold seats q p)))
+  ];
+  empty = λ r p none. elim (cases_eq r q) [
+    | inl here ↦
+        let z : None ≡ Some txn = sym none ∙ (ap (number_at (set seats q t)) here ∙ (number-set_same seats q t lt ∙ is)) in absurd cc
+    | inr ne ↦ ap (λ (x : Seat). in_set x.pages p) (seat-set_other seats q r t ne) ∙ c.empty r p (sym (number-set_other seats q r t ne) ∙ none)
+  ];
+  room = λ r low. elim (cases_eq r q) [
+    | inl here ↦
+        let o = c.room q (subst (λ k. k < MOST_OPEN) here low) in
+        subst (λ k. HasRoom pages (seat_at (set seats q t) k).pages) (sym here)
+        (subst (λ (x : Seat). HasRoom pages x.pages) (sym (seat-set_same seats q t lt))
+        (let e = o.enough in let f = o.few in record { enough = omega (arith, e, as_wide); few = omega (arith, f, as_wide) }))
+    | inr ne ↦ subst (λ (x : Seat). HasRoom pages x.pages) (sym (seat-set_other seats q r t ne)) (c.room r low)
+  ];
 }
+  where
+    or_true : (a : Bool) → (a || true) ≡ true
+    or_true true = refl
+    or_true false = refl
 
-pub table_admits : (pages : ℕ) (held idle : List Held) (h : Held) → is_admitted held h.txn ≡ false → HaveSameLocks held (held ++ h ∷ [])
-    → HasRoom pages h → (left : List Held) → length left + 1 ≡ length idle → HaveRoom pages left → IsTable pages held idle → IsTable pages (held ++ h ∷ []) left
-table_admits pages held idle h new same room left count rooms t = record {
-  whole = omega (arith, t.whole, length-append held (h ∷ []));
-  held_room = All-push (HasRoom pages) held h t.held_room room;
-  idle_room = rooms;
-  distinct = subst (IsDistinct nat_eq) (sym (numbers-append held h)) (IsDistinct-push nat_eq_equiv (numbers held) h.txn t.distinct (absent held h.txn new));
-  apart = apart_same held (held ++ h ∷ []) same t.apart;
-}
+    at_own : (p : ℕ) → may_hold (set seats q t) q p ≡ (may_hold seats q p || (p == page))
+    at_own p = ap (λ (x : Seat). in_set x.pages p) (seat-set_same seats q t lt) ∙ noted p
 
-pub table_adds_shared : (pages : ℕ) (held idle new : List Held) (by at : ℕ) → HaveRoom pages new → AddsShared held new by at
-    → IsNobody (is_in_way false held by at) → IsTable pages held idle → IsTable pages new idle
-table_adds_shared pages held idle new by at room adds free t = record {
-  whole = omega (arith, t.whole, as_many held new adds.admitted);
-  held_room = room;
-  idle_room = t.idle_room;
-  distinct = subst (IsDistinct nat_eq) (sym adds.admitted) t.distinct;
-  apart = apart_shared held new by at adds free t.apart;
-}
+    grows : (r p : ℕ) → may_hold seats r p ≡ true → may_hold (set seats q t) r p ≡ true
+    grows r p e = elim (cases_eq r q) [
+      | inl here ↦
+          ap (λ k. may_hold (set seats q t) k p) here
+          ∙ (at_own p ∙ ap (λ b. b || (p == page)) (ap (λ k. may_hold seats k p) (sym here) ∙ e))
+      | inr ne ↦ ap (λ (x : Seat). in_set x.pages p) (seat-set_other seats q r t ne) ∙ e
+    ]
 
-pub table_adds_exclusive : (pages : ℕ) (held idle new : List Held) (by at : ℕ) → HaveRoom pages new → AddsExclusive held new by at
-    → IsNobody (is_in_way true held by at) → IsTable pages held idle → IsTable pages new idle
-table_adds_exclusive pages held idle new by at room adds free t = record {
-  whole = omega (arith, t.whole, as_many held new adds.admitted);
-  held_room = room;
-  idle_room = t.idle_room;
-  distinct = subst (IsDistinct nat_eq) (sym adds.admitted) t.distinct;
-  apart = apart_exclusive held new by at adds free t.apart;
-}
-
-pub table_releases : (pages : ℕ) (held idle left : List Held) (gone : ℕ) → length (filter (λ h. not (h.txn == gone)) held) + length left ≡ length held + length idle
-    → HaveRoom pages left → IsTable pages held idle → IsTable pages (filter (λ h. not (h.txn == gone)) held) left
-table_releases pages held idle left gone count room t = record {
-  whole = count ∙ t.whole;
-  held_room = All-filter (λ h. not (h.txn == gone)) (HasRoom pages) held t.held_room;
-  idle_room = room;
-  distinct = subst (IsDistinct nat_eq) (sym (numbers-filter gone held)) (distinct_filter (λ n. not (n == gone)) (numbers held) t.distinct);
-  apart = apart_released held (filter (λ h. not (h.txn == gone)) held) gone (releases held gone) t.apart;
+pub table_adds : (pages : ℕ) (holders : List Holders) (held : List Admitted) (seats : List Seat) (page q txn : ℕ) (mode : Mode) (h : Holders) (t : Seat)
+    → page < length holders → q < MOST_OPEN → number_at seats q ≡ Some txn → t.txn ≡ Some txn
+    → ((m : Mode) (r : ℕ) → has_bit (word_of m h) r ≡ (has_bit (word_of m (holders_at holders page)) r || (is_mode m mode && (r == q))))
+    → ((p : ℕ) → in_set t.pages p ≡ (may_hold seats q p || (p == page))) → length t.pages ≡ length (seat_at seats q).pages
+    → IsNobody (is_in_way (to_write mode) (locks_of holders held) txn page) → IsTable pages holders held seats
+    → IsTable pages (set holders page h) held (set seats q t)
+table_adds pages holders held seats page q txn mode h t lt low own is added noted as_wide free table =
+    let more = held_more holders page q mode h lt added in
+    let s = table.seated in record {
+  seated = seated_same held seats q t low (is ∙ sym own) s;
+  covered = covered_more pages holders (set holders page h) seats page q txn mode t (let c = s.count in omega (arith, c)) own is (length-set holders page h) noted as_wide more table.covered;
+  apart = apart_adds mode (locks_of holders held) (locks_of (set holders page h) held) txn page (adds mode held seats holders (set holders page h) page q txn s own more) free table.apart;
 }

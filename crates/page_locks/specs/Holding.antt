@@ -1,9 +1,15 @@
 -- Who holds which locks.
-use Rattle.std.specs.Prelude.{◌≡◌, ◌≢◌, ℕ, ◌+◌, ◌*◌, ◌≤◌, Bool, true, false, not, ◌&&◌, ◌||◌, ◌==◌, List, length, map, filter, nat_eq}
-use Rattle.std.specs.List.{list_any, All, IsDistinct}
-use Rattle.object_graph.specs.declared.limits.TheConstants.{MOST_OPEN}
-use Rattle.page_locks.specs.Sets.{in_set}
-use Rattle.page_locks.specs.declared.locks.Held.{Held}
+use Rattle.std.specs.Prelude.{◌≡◌, ◌≢◌, ℕ, ◌≤◌, Bool, true, false, not, ◌&&◌, ◌||◌, ◌==◌, List, map, filter, slice_index_or}
+use Rattle.std.specs.List.{list_any}
+
+-- the locks of a transaction: by page, whether it holds it shared, and exclusive
+pub record Held : Type 0 where
+  pub txn : ℕ
+  pub shared : List Bool
+  pub exclusive : List Bool
+
+abbrev pub is_in : List Bool → ℕ → Bool
+is_in pages page = slice_index_or pages page false
 
 -- the count of pages, and the locks of each transaction admitted, in the order of their admission
 pub record LockTable : Type 0 where
@@ -19,10 +25,10 @@ is_admitted held txn = list_any (λ h. h.txn == txn) held
 
 -- the transaction holds the page shared, or exclusive
 abbrev pub shares : List Held → ℕ → ℕ → Bool
-shares held txn page = list_any (λ h. (h.txn == txn) && in_set h.shared page) held
+shares held txn page = list_any (λ h. (h.txn == txn) && is_in h.shared page) held
 
 abbrev pub excludes : List Held → ℕ → ℕ → Bool
-excludes held txn page = list_any (λ h. (h.txn == txn) && in_set h.exclusive page) held
+excludes held txn page = list_any (λ h. (h.txn == txn) && is_in h.exclusive page) held
 
 -- the other is in the way of a transaction that wants the page: shared, or exclusive (`to_write`)
 abbrev pub is_in_way : Bool → List Held → ℕ → ℕ → ℕ → Bool
@@ -65,23 +71,3 @@ pub record Releases (old new : List Held) (gone : ℕ) : Type 0 where
   pub admitted : numbers new ≡ filter (λ n. not (n == gone)) (numbers old)
   pub shared : (txn page : ℕ) → shares new txn page ≡ (shares old txn page && not (txn == gone))
   pub exclusive : (txn page : ℕ) → excludes new txn page ≡ (excludes old txn page && not (txn == gone))
-
--- the sets of these locks have room for the pages below a count
-pub record HasRoom (pages : ℕ) (h : Held) : Type 0 where
-  pub shared : pages ≤ 64 * length h.shared
-  pub exclusive : pages ≤ 64 * length h.exclusive
-
-abbrev pub HaveRoom : ℕ → List Held → Type 0
-HaveRoom pages held = All (HasRoom pages) held
-
--- no transaction is admitted twice
-abbrev pub AreDistinct : List Held → Type 0
-AreDistinct held = IsDistinct nat_eq (numbers held)
-
--- a table of those admitted, with the sets that wait for others
-pub record IsTable (pages : ℕ) (held idle : List Held) : Type 0 where
-  pub whole : length held + length idle ≡ MOST_OPEN
-  pub held_room : HaveRoom pages held
-  pub idle_room : HaveRoom pages idle
-  pub distinct : AreDistinct held
-  pub apart : KeepsApart held

@@ -1,3 +1,4 @@
 pub mod Sets
 pub mod Holding
-pub mod Blocking
+pub mod Words
+pub mod Places

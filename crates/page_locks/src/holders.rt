@@ -1,137 +1,88 @@
-//! Walks over those who hold locks.
-ghost use Rattle.std.specs.Prelude.{◌≡◌, ℕ, ◌+◌, ◌<◌, ◌≤◌, ◌==◌, true, false, filter, not, IfNone, IfOk, IfSome, IsSomeAnd, MatchOption, slice_get, vec_capacity, vec_len};
-ghost use Rattle.page_locks.specs.Sets.{in_set};
-ghost use Rattle.page_locks.specs.Holding.{is_in_way, is_admitted, IsNobody, IsLeast, AddsShared, AddsExclusive, HasRoom, HaveRoom, AreDistinct};
-ghost use Rattle.page_locks.specs.Blocking.{blocks, smaller_of};
+//! Who holds a page: a word for each mode, whose bits are the places of the transactions.
+ghost use Rattle.std.specs.Prelude.{◌≡◌, ℕ, ◌*◌, ◌+◌, ◌/◌, ◌%◌, ◌<◌, ◌≤◌, ◌&&◌, ◌||◌, ◌==◌, not, length};
+ghost use Rattle.page_locks.specs.Sets.{has_bit, in_set};
+ghost use Rattle.page_locks.specs.Words.{word_of, is_held, is_mode, conflicts};
 
-use crate::locks::Held;
 use crate::page_set::PageSet;
-use object_graph::Memory;
-use std::alloc::Global;
 
-/// So many holders that wait for a transaction, with room for the pages below a count.
-pub fn idle_holders(alloc: Global, count: usize, pages: u32) -> Result<Vec<Held>, Memory>
-    ensures count { IfOk result (λ idle. vec_len idle ≡ count) }
-    ensures room { IfOk result (λ idle. HaveRoom pages idle.items) }
-    ensures capacity { IfOk result (λ idle. count ≤ vec_capacity idle) }
-{
-    let mut idle = Vec::with_capacity(alloc, count)?;
-    'holders: for _ in 0..count {
-        let holder = idle_holder(alloc, pages)?;
-        idle.push(holder)?;
+/// How a page is held.
+#[derive(Clone, Copy, Debug, PartialEq, Eq)]
+pub enum Mode {
+    Shared,
+    Exclusive,
+}
+
+/// The places of those who hold a page shared, and exclusive.
+#[derive(Clone, Copy, Debug)]
+pub struct Holders {
+    pub shared: u64,
+    pub exclusive: u64,
+}
+
+/// A page that nobody holds.
+pub const NOBODY: Holders = Holders {
+    shared: 0,
+    exclusive: 0,
+};
+
+impl Holders {
+    /// The places that are in the way of one who wants the page.
+    pub fn in_way(&self, place: usize, mode: Mode) -> u64
+        requires { place < 64 }
+        ensures { (q : ℕ) → q < 64 → has_bit result q ≡ (not (q == place) && conflicts mode self.now q) }
+    {
+        let others = match mode {
+            Mode::Shared => self.exclusive,
+            Mode::Exclusive => self.shared | self.exclusive,
+        };
+        others & !(1 << place)
     }
-    Ok(idle)
-}
 
-fn idle_holder(alloc: Global, pages: u32) -> Result<Held, Memory>
-    ensures { IfOk result (HasRoom pages) }
-{
-    let shared = PageSet::empty(alloc, pages)?;
-    let exclusive = PageSet::empty(alloc, pages)?;
-    Ok(Held {
-        txn: 0,
-        shared,
-        exclusive,
-    })
-}
-
-/// Makes a waiting holder that of a transaction, without locks.
-pub fn start(holder: &mut Held, txn: u32)
-    ensures number { holder.new.txn ≡ txn }
-    ensures shared { (page : ℕ) → in_set holder.new.shared page ≡ false }
-    ensures exclusive { (page : ℕ) → in_set holder.new.exclusive page ≡ false }
-    ensures room { (pages : ℕ) → HasRoom pages holder.old → HasRoom pages holder.new }
-{
-    holder.txn = txn;
-    holder.shared.clear();
-    holder.exclusive.clear();
-}
-
-/// The least of those who are in the way of a transaction that wants the page, to write it or not.
-pub fn least_in_way(held: &[Held], txn: u32, page: u32, to_write: bool) -> Option<u32>
-    ensures { MatchOption result (IsNobody (is_in_way to_write held.now txn page)) (λ n. IsLeast (is_in_way to_write held.now txn page) n) }
-{
-    let mut least = None;
-    'holders: for holder in held {
-        if is_in_way_of(holder, txn, page, to_write) {
-            least = Some(smaller(least, holder.txn));
+    pub fn add(&mut self, place: usize, mode: Mode)
+        requires { place < 64 }
+        ensures { (m : _) (q : ℕ) → has_bit (word_of m self.new) q ≡ (has_bit (word_of m self.old) q || (is_mode m mode && (q == place))) }
+    {
+        match mode {
+            Mode::Shared => self.shared = self.shared | (1 << place),
+            Mode::Exclusive => self.exclusive = self.exclusive | (1 << place),
         }
     }
-    least
-}
 
-fn is_in_way_of(holder: &Held, txn: u32, page: u32, to_write: bool) -> bool
-    ensures { result ≡ blocks to_write txn page holder.now }
-{
-    holder.txn != txn && ((to_write && holder.shared.has(page)) || holder.exclusive.has(page))
-}
-
-fn smaller(least: Option<u32>, txn: u32) -> u32
-    ensures { result ≡ smaller_of least txn }
-{
-    match least {
-        Some(number) if number < txn => number,
-        _ => txn,
+    pub fn remove(&mut self, place: usize)
+        requires { place < 64 }
+        ensures { (m : _) (q : ℕ) → q < 64 → has_bit (word_of m self.new) q ≡ (has_bit (word_of m self.old) q && not (q == place)) }
+    {
+        self.shared = self.shared & !(1 << place);
+        self.exclusive = self.exclusive & !(1 << place);
     }
 }
 
-/// Whether the transaction is among the holders.
-pub fn is_holder(held: &[Held], txn: u32) -> bool
-    ensures { result ≡ is_admitted held.now txn }
+/// Takes a place from the holders of the pages of a set.
+pub fn vacate(holders: &mut [Holders], pages: &PageSet, place: usize)
+    requires place { place < 64 }
+    requires few { length pages.now ≤ 67108864 }
+    ensures vacated { (m : _) (page q : ℕ) → q < 64 → is_held m holders.new page q ≡ (is_held m holders.old page q && not ((q == place) && in_set pages.now page)) }
+    ensures count { length holders.new ≡ length holders.old }
 {
-    held.iter().any(|holder| holder.txn == txn)
+    'words: for (at, word) in pages.words().iter().enumerate() {
+        vacate_word(holders, at, *word, place);
+    }
 }
 
-/// Where the locks of a transaction stand.
-fn place(held: &[Held], txn: u32) -> Option<usize>
-    ensures some { IfSome result (λ at. IsSomeAnd (slice_get held.now at) (λ h. h.txn ≡ txn)) }
-    ensures none { IfNone result (is_admitted held.now txn ≡ false) }
+/// Takes a place from the holders of the pages of a word.
+fn vacate_word(holders: &mut [Holders], at: usize, word: u64, place: usize)
+    requires place { place < 64 }
+    requires at { at < 67108864 }
+    ensures vacated { (m : _) (page q : ℕ) → q < 64 → is_held m holders.new page q ≡ (is_held m holders.old page q && not ((q == place) && ((page / 64 == at) && has_bit word (page % 64)))) }
+    ensures count { length holders.new ≡ length holders.old }
 {
-    'holders: for (at, holder) in held.iter().enumerate() {
-        if holder.txn == txn {
-            return Some(at);
+    let mut left = word;
+    'bits: while left != 0 {
+        let bit = left.trailing_zeros();
+        let page = 64 * at + bit as usize;
+        if page < holders.len() {
+            holders[page].remove(place);
         }
+        left = left & !(1 << bit);
     }
-    None
-}
-
-pub fn add_shared(held: &mut [Held], txn: u32, page: u32)
-    requires admitted { is_admitted held.old txn ≡ true }
-    requires room { HaveRoom (page + 1) held.old }
-    ensures added { AddsShared held.old held.new txn page }
-    ensures room { (pages : ℕ) → HaveRoom pages held.old → HaveRoom pages held.new }
-{
-    if let Some(at) = place(held, txn) {
-        let holder = &mut held[at];
-        holder.shared.insert(page);
-    }
-}
-
-pub fn add_exclusive(held: &mut [Held], txn: u32, page: u32)
-    requires admitted { is_admitted held.old txn ≡ true }
-    requires room { HaveRoom (page + 1) held.old }
-    ensures added { AddsExclusive held.old held.new txn page }
-    ensures room { (pages : ℕ) → HaveRoom pages held.old → HaveRoom pages held.new }
-{
-    if let Some(at) = place(held, txn) {
-        let holder = &mut held[at];
-        holder.exclusive.insert(page);
-    }
-}
-
-/// Takes out a transaction, whose holder waits for another.
-pub fn drop_holder(held: &mut Vec<Held>, idle: &mut Vec<Held>, txn: u32)
-    requires distinct { AreDistinct held.old.items }
-    requires room { vec_len held.old + vec_len idle.old ≤ vec_capacity idle.old }
-    ensures kept { held.new.items ≡ filter (λ h. not (h.txn == txn)) held.old.items }
-    ensures whole { vec_len held.new + vec_len idle.new ≡ vec_len held.old + vec_len idle.old }
-    ensures room { (pages : ℕ) → HaveRoom pages held.old.items → HaveRoom pages idle.old.items → HaveRoom pages idle.new.items }
-    ensures held_capacity { vec_capacity held.new ≡ vec_capacity held.old }
-    ensures idle_capacity { vec_capacity idle.new ≡ vec_capacity idle.old }
-{
-    let Some(at) = place(held, txn) else {
-        return;
-    };
-    let holder = held.remove(at);
-    idle.push_reserved(holder);
 }

@@ -1,11 +1,12 @@
 //! The table of locks.
 ghost use Rattle.std.specs.Prelude.{◌≡◌, ℕ, ◌<◌, ◌≤◌, ◌++◌, ◌∷◌, ◌||◌, [], true, false, IfOk, IfErr, OnOk, OnErr, length};
 ghost use Rattle.page_locks.specs.Holding.{numbers, shares, excludes, is_admitted, is_in_way, IsNobody, IsLeast, HaveSameLocks, AddsShared, AddsExclusive, Releases, KeepsApart};
+ghost use Rattle.page_locks.specs.Words.{to_write};
+ghost use Rattle.page_locks.specs.Places.{Adds, IsLeastInWay};
 
-use crate::holders::{
-    add_exclusive, add_shared, drop_holder, idle_holders, is_holder, least_in_way, start,
-};
-use crate::page_set::PageSet;
+use crate::admitted::{Admitted, drop_admitted};
+use crate::holders::{Holders, Mode, NOBODY, vacate};
+use crate::seats::{Seat, free_place, free_seats, least_number, place_of};
 use object_graph::{MOST_OPEN, Memory};
 use std::alloc::Global;
 use std::marker::Model;
@@ -20,35 +21,30 @@ pub struct Busy {
     pub holder: u32,
 }
 
-/// The locks of a transaction. While it waits for one, its number and its sets mean nothing.
-#[derive(Drop)]
-pub struct Held {
-    pub txn: u32,
-    pub shared: PageSet,
-    pub exclusive: PageSet,
-}
-
 /// Locks on the pages below a count. Contracts see that count, and who holds what.
 ///
-/// All memory is taken by `new`, for as many transactions as can be admitted. No call but
+/// A transaction that is admitted has a place below 64; each page has a word of those places for
+/// each mode. All memory is taken by `new`, for as many transactions as can be admitted. No call but
 /// `release_all` takes a lock back.
 #[derive(Drop)]
 pub struct Locks {
     pages: u32,
-    held: Vec<Held>,
-    idle: Vec<Held>,
+    holders: Vec<Holders>,
+    admitted: Vec<Admitted>,
+    seats: Vec<Seat>,
 }
 
 impl Model for Locks {
     ghost use Rattle.std.specs.Prelude.{◌≤◌, vec_capacity};
     ghost use Rattle.object_graph.specs.declared.limits.TheConstants.{MOST_OPEN};
-    ghost use Rattle.page_locks.specs.Holding.{LockTable, IsTable};
+    ghost use Rattle.page_locks.specs.Holding.{LockTable};
+    ghost use Rattle.page_locks.specs.Places.{IsTable, locks_of};
 
     ghost Value = { LockTable };
 
-    ghost view = { λ l. record { pages = l.pages; held = l.held.items } };
+    ghost view = { λ l. record { pages = l.pages; held = locks_of l.holders.items l.admitted.items } };
 
-    ghost invariant = { λ l. (MOST_OPEN ≤ vec_capacity l.held) × (MOST_OPEN ≤ vec_capacity l.idle) × IsTable l.pages l.held.items l.idle.items };
+    ghost invariant = { λ l. (MOST_OPEN ≤ vec_capacity l.admitted) × IsTable l.pages l.holders.items l.admitted.items l.seats.items };
 }
 
 impl Locks {
@@ -57,9 +53,15 @@ impl Locks {
         ensures pages { IfOk result (λ locks. locks.pages ≡ pages) }
         ensures empty { IfOk result (λ locks. locks.held ≡ []) }
     {
-        let held = Vec::with_capacity(alloc, MOST_OPEN)?;
-        let idle = idle_holders(alloc, MOST_OPEN, pages)?;
-        Ok(Locks { pages, held, idle })
+        let holders = vec![in alloc; NOBODY; pages as usize]?;
+        let admitted = Vec::with_capacity(alloc, MOST_OPEN)?;
+        let seats = free_seats(alloc, pages)?;
+        Ok(Locks {
+            pages,
+            holders,
+            admitted,
+            seats,
+        })
     }
 
     /// The count of pages with which the table was made.
@@ -79,11 +81,11 @@ impl Locks {
         ensures unchanged { OnErr result (self.new ≡ self.old) }
         ensures pages { self.new.pages ≡ self.old.pages }
     {
-        let Some(mut holder) = self.idle.pop() else {
+        let Some(place) = free_place(&self.seats, txn) else {
             return Err(TooMany);
         };
-        start(&mut holder, txn);
-        self.held.push_reserved(holder);
+        self.seats[place].txn = Some(txn);
+        self.admitted.push_reserved(Admitted { txn, place });
         Ok(())
     }
 
@@ -91,7 +93,7 @@ impl Locks {
     pub fn admitted(&self, txn: u32) -> bool
         ensures { result ≡ is_admitted self.now.held txn }
     {
-        is_holder(&self.held, txn)
+        place_of(&self.seats, txn).is_some()
     }
 
     /// Whether `try_shared` would give the lock.
@@ -101,10 +103,7 @@ impl Locks {
         ensures free { OnOk result (IsNobody (is_in_way false self.now.held txn page)) }
         ensures busy { IfErr result (λ busy. IsLeast (is_in_way false self.now.held txn page) busy.holder) }
     {
-        match least_in_way(&self.held, txn, page, false) {
-            None => Ok(()),
-            Some(holder) => Err(Busy { holder }),
-        }
+        self.check(txn, page, Mode::Shared)
     }
 
     /// Whether `try_exclusive` would give the lock.
@@ -114,10 +113,7 @@ impl Locks {
         ensures free { OnOk result (IsNobody (is_in_way true self.now.held txn page)) }
         ensures busy { IfErr result (λ busy. IsLeast (is_in_way true self.now.held txn page) busy.holder) }
     {
-        match least_in_way(&self.held, txn, page, true) {
-            None => Ok(()),
-            Some(holder) => Err(Busy { holder }),
-        }
+        self.check(txn, page, Mode::Exclusive)
     }
 
     /// Takes the shared lock of a page.
@@ -130,13 +126,7 @@ impl Locks {
         ensures unchanged { OnErr result (self.new ≡ self.old) }
         ensures pages { self.new.pages ≡ self.old.pages }
     {
-        match self.check_shared(txn, page) {
-            Ok(()) => {
-                add_shared(&mut self.held, txn, page);
-                Ok(())
-            }
-            Err(busy) => Err(busy),
-        }
+        self.take(txn, page, Mode::Shared)
     }
 
     /// Takes the exclusive lock of a page. One who shares it alone is given it.
@@ -149,13 +139,7 @@ impl Locks {
         ensures unchanged { OnErr result (self.new ≡ self.old) }
         ensures pages { self.new.pages ≡ self.old.pages }
     {
-        match self.check_exclusive(txn, page) {
-            Ok(()) => {
-                add_exclusive(&mut self.held, txn, page);
-                Ok(())
-            }
-            Err(busy) => Err(busy),
-        }
+        self.take(txn, page, Mode::Exclusive)
     }
 
     /// Takes back all locks of a transaction, and its admission.
@@ -163,7 +147,12 @@ impl Locks {
         ensures released { Releases self.old.held self.new.held txn }
         ensures pages { self.new.pages ≡ self.old.pages }
     {
-        drop_holder(&mut self.held, &mut self.idle, txn);
+        let Some(place) = place_of(&self.seats, txn) else {
+            return;
+        };
+        vacate(&mut self.holders, &self.seats[place].pages, place);
+        self.seats[place].leave();
+        drop_admitted(&mut self.admitted, txn);
     }
 
     /// Where one holds a page exclusive, nobody else holds it, and whoever asks for what it holds
@@ -173,6 +162,63 @@ impl Locks {
         ensures shared { (txn page : ℕ) → (shares self.now.held txn page || excludes self.now.held txn page) ≡ true → IsNobody (is_in_way false self.now.held txn page) }
         ensures exclusive { (txn page : ℕ) → excludes self.now.held txn page ≡ true → IsNobody (is_in_way true self.now.held txn page) }
     {
-        let _ = &self.held;
+        let _ = &self.admitted;
     }
+
+    /// Whether `take` would give the lock.
+    fn check(&self, txn: u32, page: u32, mode: Mode) -> Result<(), Busy>
+        requires admitted { is_admitted self.now.held txn ≡ true }
+        requires page { page < self.now.pages }
+        ensures free { OnOk result (IsNobody (is_in_way (to_write mode) self.now.held txn page)) }
+        ensures busy { IfErr result (λ busy. IsLeast (is_in_way (to_write mode) self.now.held txn page) busy.holder) }
+    {
+        let Some(place) = place_of(&self.seats, txn) else {
+            unreachable!();
+        };
+        match in_way(&self.holders, &self.seats, place, page, mode) {
+            None => Ok(()),
+            Some(holder) => Err(Busy { holder }),
+        }
+    }
+
+    /// Takes a lock of a page.
+    fn take(&mut self, txn: u32, page: u32, mode: Mode) -> Result<(), Busy>
+        requires admitted { is_admitted self.old.held txn ≡ true }
+        requires page { page < self.old.pages }
+        ensures free { OnOk result (IsNobody (is_in_way (to_write mode) self.old.held txn page)) }
+        ensures taken { OnOk result (Adds mode self.old.held self.new.held txn page) }
+        ensures busy { IfErr result (λ busy. IsLeast (is_in_way (to_write mode) self.old.held txn page) busy.holder) }
+        ensures unchanged { OnErr result (self.new ≡ self.old) }
+        ensures pages { self.new.pages ≡ self.old.pages }
+    {
+        let Some(place) = place_of(&self.seats, txn) else {
+            unreachable!();
+        };
+        if let Some(holder) = in_way(&self.holders, &self.seats, place, page, mode) {
+            return Err(Busy { holder });
+        }
+        self.holders[page as usize].add(place, mode);
+        self.seats[place].pages.insert(page);
+        Ok(())
+    }
+}
+
+/// The least number that is in the way of the one at a place.
+fn in_way(
+    holders: &[Holders],
+    seats: &[Seat],
+    place: usize,
+    page: u32,
+    mode: Mode,
+) -> Option<u32>
+    requires place { place < 64 }
+    requires page { page < length holders.now }
+    requires seats { length seats.now ≡ MOST_OPEN }
+    ensures { IsLeastInWay holders.now seats.now place page mode result }
+{
+    let places = holders[page as usize].in_way(place, mode);
+    if places == 0 {
+        return None;
+    }
+    least_number(seats, places)
 }

@@ -1,6 +1,6 @@
 //! Sets of pages.
-ghost use Rattle.std.specs.Prelude.{◌≡◌, ℕ, ◌*◌, ◌<◌, ◌≤◌, ◌||◌, ◌==◌, false, IfOk, length};
-ghost use Rattle.page_locks.specs.Sets.{in_set};
+ghost use Rattle.std.specs.Prelude.{◌≡◌, ℕ, ◌*◌, ◌<◌, ◌||◌, ◌==◌, false, IfOk, length};
+ghost use Rattle.page_locks.specs.Sets.{in_set, HasRoom};
 
 use object_graph::Memory;
 use std::alloc::Global;
@@ -25,19 +25,16 @@ impl PageSet {
     /// An empty set with room for the pages below a count.
     pub fn empty(alloc: Global, pages: u32) -> Result<PageSet, Memory>
         ensures none { IfOk result (λ set. (p : ℕ) → in_set set p ≡ false) }
-        ensures room { IfOk result (λ set. pages ≤ 64 * length set) }
+        ensures room { IfOk result (HasRoom pages) }
     {
         let words = vec![in alloc; 0; pages.div_ceil(64) as usize]?;
         Ok(PageSet { words })
     }
 
-    pub fn has(&self, page: u32) -> bool
-        ensures { result ≡ in_set self.now page }
+    pub fn words(&self) -> &[u64]
+        ensures { result.now ≡ self.now }
     {
-        match self.words.get((page / 64) as usize) {
-            Some(word) => (*word >> (page % 64)) & 1 == 1,
-            None => false,
-        }
+        &self.words
     }
 
     pub fn insert(&mut self, page: u32)

@@ -1,15 +1,15 @@
-use Rattle.std.proofs.Common.{◌≡◌, List, length, sym, subst, arith}
-use Rattle.object_graph.specs.declared.limits.TheConstants.{MOST_OPEN}
-use Rattle.page_locks.specs.Holding.{IsTable}
-use Rattle.page_locks.specs.declared.locks.Held.{Held}
-use Rattle.page_locks.proofs.Table.{table_starts}
+use Rattle.std.proofs.Common.{◌≡◌, List, replicate, sym, subst, ◌∙◌}
+use Rattle.page_locks.specs.Words.{nobody}
+use Rattle.page_locks.specs.Places.{IsTable}
+use Rattle.page_locks.specs.declared.admitted.Admitted.{Admitted}
+use Rattle.page_locks.specs.declared.holders.Holders.{Holders}
+use Rattle.page_locks.proofs.Comings.{table_starts}
 use Rattle.page_locks.proofs.locks.Locks.new.Goals as goal
 
 pub invariant_of-result : goal.invariant_of-result
-invariant_of-result c =
-    let idle = c.in_ok-idle.idle.items in
-    let count : length idle ≡ MOST_OPEN = omega (arith, c.in_ok-idle.ensures.count) in (
-      c.in_ok-held.ensures.capacity,
-      c.in_ok-idle.ensures.capacity,
-      subst (λ (held : List Held). IsTable c.args.pages held idle) (sym c.in_ok-held.ensures.items) (table_starts c.args.pages idle count c.in_ok-idle.ensures.room),
-    )
+invariant_of-result c = (
+  c.in_ok-admitted.ensures.capacity,
+  subst (λ (holders : List Holders). IsTable c.args.pages holders c.in_ok-admitted.admitted.items c.in_ok-seats.seats.items) (sym (c.in_ok-holders.ensures.items_if_clones_equal (λ y e. e)))
+      (subst (λ (held : List Admitted). IsTable c.args.pages (replicate c.args.pages nobody) held c.in_ok-seats.seats.items) (sym c.in_ok-admitted.ensures.items)
+      (table_starts c.args.pages c.in_ok-seats.seats.items c.in_ok-seats.ensures)),
+)

@@ -1,0 +1,105 @@
+//! The places of transactions.
+ghost use Rattle.std.specs.Prelude.{◌≡◌, ◌≢◌, ℕ, ◌<◌, false, None, Some, IfNone, IfOk, IfSome, length};
+ghost use Rattle.page_locks.specs.Sets.{in_set};
+ghost use Rattle.page_locks.specs.Places.{number_at, smaller_of, IsLeastMarked, AreFresh};
+
+use crate::page_set::PageSet;
+use object_graph::{MOST_OPEN, Memory};
+use std::alloc::Global;
+
+/// Who has a place, and the pages that it may hold.
+#[derive(Drop)]
+pub struct Seat {
+    pub txn: Option<u32>,
+    pub pages: PageSet,
+}
+
+impl Seat {
+    /// Makes the place free.
+    pub fn leave(&mut self)
+        ensures free { self.new.txn ≡ None }
+        ensures none { (p : ℕ) → in_set self.new.pages p ≡ false }
+        ensures room { length self.new.pages ≡ length self.old.pages }
+    {
+        self.txn = None;
+        self.pages.clear();
+    }
+}
+
+/// All places, free.
+pub fn free_seats(alloc: Global, pages: u32) -> Result<Vec<Seat>, Memory>
+    ensures { IfOk result (λ seats. AreFresh pages seats.items) }
+{
+    let mut seats = Vec::with_capacity(alloc, MOST_OPEN)?;
+    'seats: for _ in 0..MOST_OPEN {
+        let pages = PageSet::empty(alloc, pages)?;
+        seats.push(Seat { txn: None, pages })?;
+    }
+    Ok(seats)
+}
+
+/// The place of a transaction.
+pub fn place_of(seats: &[Seat], txn: u32) -> Option<usize>
+    requires { length seats.now ≡ MOST_OPEN }
+    ensures within { IfSome result (λ place. place < MOST_OPEN) }
+    ensures some { IfSome result (λ place. number_at seats.now place ≡ Some txn) }
+    ensures none { IfNone result ((q : ℕ) → number_at seats.now q ≢ Some txn) }
+{
+    seat_with(seats, first_place(txn), Some(txn))
+}
+
+/// A free place for a transaction.
+pub fn free_place(seats: &[Seat], txn: u32) -> Option<usize>
+    requires { length seats.now ≡ MOST_OPEN }
+    ensures within { IfSome result (λ place. place < MOST_OPEN) }
+    ensures some { IfSome result (λ place. number_at seats.now place ≡ None) }
+    ensures none { IfNone result ((q : ℕ) → q < MOST_OPEN → number_at seats.now q ≢ None) }
+{
+    seat_with(seats, first_place(txn), None)
+}
+
+/// Where a transaction is looked for first: numbers that follow each other, and those of equal
+/// distances, have mostly different places.
+fn first_place(txn: u32) -> usize {
+    (txn.wrapping_mul(2_654_435_769) >> 26) as usize
+}
+
+/// The first seat of this number, from a place on and round.
+fn seat_with(seats: &[Seat], first: usize, txn: Option<u32>) -> Option<usize>
+    requires { length seats.now ≡ MOST_OPEN }
+    ensures within { IfSome result (λ place. place < MOST_OPEN) }
+    ensures some { IfSome result (λ place. number_at seats.now place ≡ txn) }
+    ensures none { IfNone result ((q : ℕ) → q < MOST_OPEN → number_at seats.now q ≢ txn) }
+{
+    'steps: for step in 0..MOST_OPEN {
+        let place = (first % MOST_OPEN + step) % MOST_OPEN;
+        if seats[place].txn == txn {
+            return Some(place);
+        }
+    }
+    None
+}
+
+/// The least number at the places of a word.
+pub fn least_number(seats: &[Seat], places: u64) -> Option<u32>
+    requires { length seats.now ≡ MOST_OPEN }
+    ensures { IsLeastMarked seats.now places MOST_OPEN result }
+{
+    let mut least: Option<u32> = None;
+    'places: for (place, seat) in seats.iter().enumerate() {
+        if (places >> place) & 1 == 1 {
+            least = smaller(seat.txn, least);
+        }
+    }
+    least
+}
+
+fn smaller(one: Option<u32>, other: Option<u32>) -> Option<u32>
+    ensures { result ≡ smaller_of one other }
+{
+    match (one, other) {
+        (Some(number), Some(least)) if least < number => other,
+        (Some(_), _) => one,
+        _ => other,
+    }
+}
