@@ -1,7 +1,7 @@
 -- Sets as words.
-use Rattle.std.proofs.Common.{◌≡◌, ℕ, ◌/◌, ◌%◌, ◌*◌, ◌^◌, ◌<◌, ◌≢◌, ◌-◌, ◌+◌, Bool, true, false, ◌||◌, ◌&&◌, ◌==◌, not, List, length, get_or, set, refl, ap, sym, ◌∙◌, inl, inr, arith, zero, suc, bit_and, bit_or, max, w64, get_or-set_same, get_or-set_other}
+use Rattle.std.proofs.Common.{◌≡◌, ℕ, ◌/◌, ◌%◌, ◌*◌, ◌^◌, ◌<◌, ◌-◌, Bool, true, false, ◌||◌, ◌&&◌, ◌==◌, not, List, length, get_or, set, refl, ap, sym, ◌∙◌, inl, inr, arith, zero, suc, bit_and, bit_or, max, w64, get_or-set_same, get_or-set_other}
 use Rattle.std.specs.Int.{bit_at}
-use Rattle.std.proofs.lemmas.Nat.Bits.{bit_at_set_same, bit_at_set_other, bit_at_clear_same, bit_at_clear_other, bit_at_or, bit_at-lt, bit_at-zero, bit_at-trailing_zeros}
+use Rattle.std.proofs.lemmas.Nat.Bits.{bit_at_set_same, bit_at_set_other, bit_at_clear_same, bit_at_clear_other, bit_at_or, bit_at-lt, bit_at-zero}
 use Rattle.std.proofs.lemmas.Bool.{cases_eq, eq-eqb, ne_eqb}
 use Rattle.std.proofs.lemmas.Grind.{get_or_default_zero}
 use Rattle.page_locks.specs.Sets.{has_bit, in_set}
@@ -13,7 +13,6 @@ or_false false = refl
 pub or_true : (a : Bool) → (a || true) ≡ true
 or_true true = refl
 or_true false = refl
-
 
 in_set-set : (words : List ℕ) (page p : ℕ) → page / 64 < length words
     → in_set (set words (page / 64) (bit_or (get_or words (page / 64) 0) (1 * 2 ^ (page % 64) % 18446744073709551616))) p ≡ (in_set words p || (p == page))

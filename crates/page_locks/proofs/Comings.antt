@@ -1,27 +1,27 @@
 -- The table at first, and as transactions come and go.
-use Rattle.std.proofs.Common.{◌≡◌, ◌≢◌, ℕ, zero, suc, ◌+◌, ◌<◌, ◌≤◌, Bool, true, false, not, cond, ◌==◌, ◌||◌, ◌&&◌, nat_eq, Option, Some, None, List, [], ◌∷◌, ◌++◌, length, filter, get_or, set, replicate, refl, ap, sym, subst, ◌∙◌, ◌⊎◌, inl, inr, arith, nat_lt, ◌%◌, length-append, get_or-set_same, get_or-set_other}
+use Rattle.std.proofs.Common.{◌≡◌, ◌≢◌, ℕ, ◌<◌, true, false, not, ◌==◌, ◌||◌, ◌&&◌, nat_eq, Some, None, List, [], ◌∷◌, ◌++◌, length, filter, get_or, set, replicate, refl, ap, sym, subst, ◌∙◌, ◌⊎◌, inl, inr, arith, nat_lt, ◌%◌, length-append}
 use Rattle.std.specs.List.{list_any, AllByRecursion, IsDistinct, All}
 use Rattle.std.specs.Cmp.{nat_eq_equiv}
-use Rattle.std.proofs.lemmas.Bool.{or_cases, cases_Bool, cases_eq, eq-eqb, eqb-true, ne_eqb, and_parts, ltb-true, ltb-false}
-use Rattle.std.proofs.lemmas.List.{length-map, length-set}
+use Rattle.std.proofs.lemmas.Bool.{cases_Bool, cases_eq, eq-eqb, ne_eqb, and_parts, ltb-true, ltb-false}
+use Rattle.std.proofs.lemmas.List.{length-set}
 use Rattle.std.proofs.lemmas.List.Folds.{list_any-append}
 use Rattle.std.proofs.lemmas.List.Elements.{All-nil, All-filter, All-push}
 use Rattle.std.proofs.lemmas.Map.Keys.{IsDistinct-push}
 use Rattle.object_graph.specs.declared.limits.TheConstants.{MOST_OPEN}
 use Rattle.page_locks.specs.Sets.{has_bit, in_set, HasRoom}
-use Rattle.page_locks.specs.Words.{word_of, is_mode, to_write, holders_at, is_held}
-use Rattle.page_locks.specs.Holding.{Held, numbers, is_in_way, IsNobody, KeepsApart, HaveSameLocks, Releases}
-use Rattle.page_locks.specs.Places.{free_seat, seat_at, number_at, may_hold, free_or_not, count_free, locks_of, numbers_in, is_among, Adds, AreSeated, AreCovered, IsTable}
+use Rattle.page_locks.specs.Words.{word_of, is_held}
+use Rattle.page_locks.specs.Holding.{KeepsApart, HaveSameLocks, Releases}
+use Rattle.page_locks.specs.Places.{free_seat, seat_at, number_at, may_hold, free_or_not, count_free, locks_of, numbers_in, is_among, AreSeated, AreCovered, IsTable}
 use Rattle.page_locks.specs.declared.admitted.Admitted.{Admitted}
 use Rattle.page_locks.specs.declared.holders.Holders.{Holders}
 use Rattle.page_locks.specs.declared.holders.Mode.{Mode}
 use Rattle.page_locks.specs.declared.holders.Mode.TheVariants.{Shared, Exclusive}
 use Rattle.page_locks.specs.declared.seats.Seat.{Seat}
 use Rattle.page_locks.proofs.Bits.{or_false, or_true, and_true, and_false, has_none}
-use Rattle.page_locks.proofs.Apart.{apart_same, apart_shared, apart_exclusive, apart_released}
+use Rattle.page_locks.proofs.Apart.{apart_same, apart_released}
 use Rattle.page_locks.proofs.Modes.{has_lock, has_lock-locks_of, numbers-locks_of}
 use Rattle.page_locks.proofs.Order.{others_stay, numbers-append, numbers-filter, gone_away, others_among, one_less, distinct_filter, absent}
-use Rattle.page_locks.proofs.Seated.{number-set_same, number-set_other, count-set, seat_or_not, seat_of, lock_at, no_lock, same_place, some_same}
+use Rattle.page_locks.proofs.Seated.{number-set_same, number-set_other, count-set, seat_or_not, lock_at, no_lock, some_same}
 use Rattle.page_locks.proofs.Modes.{held_by_nobody}
 use Rattle.page_locks.proofs.Seated.{none_free}
 use Rattle.page_locks.proofs.Table.{seat-set_same, seat-set_other}
@@ -126,13 +126,13 @@ module _ (held : List Admitted) (seats : List Seat) (txn q : ℕ) (s : AreSeated
     ];
     single = λ a b n e f. elim (by_place a n e) [
       | inl x ↦ elim (by_place b n f) [
-          | inl y ↦ x.0 ∙ sym y.0
-          | inr y ↦ absurd (apart_from b (y.1 ∙ ap Some x.1))
-        ]
+        | inl y ↦ x.0 ∙ sym y.0
+        | inr y ↦ absurd (apart_from b (y.1 ∙ ap Some x.1))
+      ]
       | inr x ↦ elim (by_place b n f) [
-          | inl y ↦ absurd (apart_from a (x.1 ∙ ap Some y.1))
-          | inr y ↦ s.single a b n x.1 y.1
-        ]
+        | inl y ↦ absurd (apart_from a (x.1 ∙ ap Some y.1))
+        | inr y ↦ s.single a b n x.1 y.1
+      ]
     ];
     distinct = subst (IsDistinct nat_eq) (sym (numbers-append held one)) (IsDistinct-push nat_eq_equiv (numbers_in held) txn s.distinct (absent (numbers_in held) txn new));
     free =
@@ -210,9 +210,9 @@ full held seats s taken =
 -- ---- one is released
 
 module _ (pages : ℕ) (old new : List Holders) (held : List Admitted) (seats : List Seat) (gone q : ℕ) (t : Seat) (table : IsTable pages old held seats)
-  (low : q < MOST_OPEN) (is : number_at seats q ≡ Some gone) (left : t.txn ≡ None) (none : (p : ℕ) → in_set t.pages p ≡ false) (as_wide : length t.pages ≡ length (seat_at seats q).pages)
-  (as_long : length new ≡ length old)
-  (vacated : (m : Mode) (page r : ℕ) → r < MOST_OPEN → is_held m new page r ≡ (is_held m old page r && not ((r == q) && may_hold seats q page))) where
+    (low : q < MOST_OPEN) (is : number_at seats q ≡ Some gone) (left : t.txn ≡ None) (none : (p : ℕ) → in_set t.pages p ≡ false) (as_wide : length t.pages ≡ length (seat_at seats q).pages)
+    (as_long : length new ≡ length old)
+    (vacated : (m : Mode) (page r : ℕ) → r < MOST_OPEN → is_held m new page r ≡ (is_held m old page r && not ((r == q) && may_hold seats q page))) where
   abbrev pub without : List Admitted
   without = filter (λ a. not (a.txn == gone)) held
 
@@ -242,23 +242,23 @@ module _ (pages : ℕ) (old new : List Holders) (held : List Admitted) (seats : 
   seated_releases =
       let s = table.seated in
       let old_ones = All-filter (λ (a : Admitted). not (a.txn == gone)) (λ (a : Admitted). (a.place < MOST_OPEN) × (number_at seats a.place ≡ Some a.txn)) held s.seated in record {
-    count = length-set seats q t ∙ s.count;
-    seated = λ i d l.
-        let e = old_ones i d l in
-        let ne : (get_or without i d).place ≢ q = λ here.
-          kept_apart i d l (some_same (get_or without i d).txn gone (sym e.1 ∙ (ap (number_at seats) here ∙ is))) in
-        (e.0, number-set_other seats q (get_or without i d).place t ne ∙ e.1);
-    admitted = λ p n e. let x = elsewhere p n e in still n (another p n x.1 x.0) ∙ s.admitted p n x.1;
-    single = λ a b n e f. s.single a b n (elsewhere a n e).1 (elsewhere b n f).1;
-    distinct = subst (IsDistinct nat_eq) (sym (numbers-filter gone held)) (distinct_filter (λ n. not (n == gone)) (numbers_in held) s.distinct);
-    free =
-        let c = count-set seats q t inside in
-        let k = ap free_or_not is in
-        let l = ap free_or_not left in
-        let f = s.free in
-        let o = one_less held gone s.distinct (s.admitted q gone is) in
-        omega (arith, c, k, l, f, o);
-  }
+        count = length-set seats q t ∙ s.count;
+        seated = λ i d l.
+            let e = old_ones i d l in
+            let ne : (get_or without i d).place ≢ q = λ here.
+            kept_apart i d l (some_same (get_or without i d).txn gone (sym e.1 ∙ (ap (number_at seats) here ∙ is))) in
+            (e.0, number-set_other seats q (get_or without i d).place t ne ∙ e.1);
+        admitted = λ p n e. let x = elsewhere p n e in still n (another p n x.1 x.0) ∙ s.admitted p n x.1;
+        single = λ a b n e f. s.single a b n (elsewhere a n e).1 (elsewhere b n f).1;
+        distinct = subst (IsDistinct nat_eq) (sym (numbers-filter gone held)) (distinct_filter (λ n. not (n == gone)) (numbers_in held) s.distinct);
+        free =
+            let c = count-set seats q t inside in
+            let k = ap free_or_not is in
+            let l = ap free_or_not left in
+            let f = s.free in
+            let o = one_less held gone s.distinct (s.admitted q gone is) in
+            omega (arith, c, k, l, f, o);
+      }
 
   pub covered_releases : AreCovered pages new (set seats q t)
   covered_releases = let c = table.covered in record {

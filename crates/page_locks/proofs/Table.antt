@@ -1,27 +1,22 @@
 -- What each call keeps of a table.
-use Rattle.std.proofs.Common.{◌≡◌, ◌≢◌, ℕ, zero, suc, ◌+◌, ◌<◌, ◌≤◌, Bool, true, false, not, cond, ◌==◌, ◌||◌, ◌&&◌, nat_eq, Option, Some, None, List, [], ◌∷◌, ◌++◌, length, filter, get_or, set, replicate, refl, ap, sym, subst, ◌∙◌, inl, inr, arith, length-append, get_or-set_same, get_or-set_other}
-use Rattle.std.specs.List.{list_any, AllByRecursion, IsDistinct, All}
+use Rattle.std.proofs.Common.{◌≡◌, ◌≢◌, ℕ, suc, ◌<◌, Bool, true, false, ◌==◌, ◌||◌, ◌&&◌, Some, None, List, [], ◌∷◌, length, get_or, set, refl, ap, sym, subst, ◌∙◌, inl, inr, arith, get_or-set_same, get_or-set_other}
 use Rattle.std.specs.Cmp.{nat_eq_equiv}
-use Rattle.std.proofs.lemmas.Bool.{or_cases, cases_Bool, cases_eq, eq-eqb, eqb-true, ne_eqb, and_parts}
-use Rattle.std.proofs.lemmas.List.{length-map, length-set}
-use Rattle.std.proofs.lemmas.List.Folds.{list_any-append}
-use Rattle.std.proofs.lemmas.List.Elements.{All-nil, All-filter, All-push}
-use Rattle.std.proofs.lemmas.Map.Keys.{IsDistinct-push}
+use Rattle.std.proofs.lemmas.Bool.{or_cases, cases_eq, eq-eqb, eqb-true, ne_eqb, and_parts}
+use Rattle.std.proofs.lemmas.List.{length-set}
 use Rattle.object_graph.specs.declared.limits.TheConstants.{MOST_OPEN}
 use Rattle.page_locks.specs.Sets.{has_bit, in_set, HasRoom}
 use Rattle.page_locks.specs.Words.{word_of, is_mode, to_write, holders_at, is_held}
-use Rattle.page_locks.specs.Holding.{Held, numbers, is_in_way, IsNobody, KeepsApart, HaveSameLocks, Releases}
-use Rattle.page_locks.specs.Places.{free_seat, seat_at, number_at, may_hold, free_or_not, count_free, locks_of, numbers_in, is_among, Adds, AreSeated, AreCovered, IsTable}
+use Rattle.page_locks.specs.Holding.{Held, numbers, is_in_way, IsNobody, KeepsApart}
+use Rattle.page_locks.specs.Places.{free_seat, seat_at, number_at, may_hold, free_or_not, locks_of, numbers_in, is_among, Adds, AreSeated, AreCovered, IsTable}
 use Rattle.page_locks.specs.declared.admitted.Admitted.{Admitted}
 use Rattle.page_locks.specs.declared.holders.Holders.{Holders}
 use Rattle.page_locks.specs.declared.holders.Mode.{Mode}
 use Rattle.page_locks.specs.declared.holders.Mode.TheVariants.{Shared, Exclusive}
 use Rattle.page_locks.specs.declared.seats.Seat.{Seat}
-use Rattle.page_locks.proofs.Bits.{or_false, and_true, and_false}
-use Rattle.page_locks.proofs.Apart.{apart_same, apart_shared, apart_exclusive, apart_released}
-use Rattle.page_locks.proofs.Modes.{has_lock, has_lock-locks_of, numbers-locks_of}
-use Rattle.page_locks.proofs.Order.{numbers-append, numbers-filter, gone_away, others_among, one_less, distinct_filter, absent}
-use Rattle.page_locks.proofs.Seated.{number-set_same, number-set_other, count-set, seat_or_not, seat_of, lock_at, no_lock, same_place, some_same}
+use Rattle.page_locks.proofs.Bits.{or_false, and_false}
+use Rattle.page_locks.proofs.Apart.{apart_shared, apart_exclusive}
+use Rattle.page_locks.proofs.Modes.{has_lock, numbers-locks_of}
+use Rattle.page_locks.proofs.Seated.{number-set_same, number-set_other, count-set, seat_or_not, lock_at, no_lock, same_place}
 use Rattle.page_locks.proofs.Vacating.{held-set_same, held-set_other}
 
 pub length-locks_of : (holders : List Holders) (held : List Admitted) → length (locks_of holders held) ≡ length held
@@ -38,7 +33,7 @@ seat-set_other seats q p s ne = get_or-set_other seats q p s free_seat ne
 
 -- one more bit
 module _ (holders : List Holders) (page q : ℕ) (mode : Mode) (h : Holders) (lt : page < length holders)
-  (added : (m : Mode) (r : ℕ) → has_bit (word_of m h) r ≡ (has_bit (word_of m (holders_at holders page)) r || (is_mode m mode && (r == q)))) where
+    (added : (m : Mode) (r : ℕ) → has_bit (word_of m h) r ≡ (has_bit (word_of m (holders_at holders page)) r || (is_mode m mode && (r == q)))) where
   pub held_more : (m : Mode) (p r : ℕ) → is_held m (set holders page h) p r ≡ (is_held m holders p r || (is_mode m mode && ((p == page) && (r == q))))
   held_more m p r = elim (cases_eq p page) [
     | inl same ↦
@@ -63,8 +58,8 @@ eqb_swap : (a b : ℕ) → (a == b) ≡ (b == a)
 eqb_swap a b = nat_eq_equiv.symm a b
 
 module _ (held : List Admitted) (seats : List Seat) (old new : List Holders) (page q txn : ℕ) (mode : Mode)
-  (s : AreSeated held seats) (own : number_at seats q ≡ Some txn)
-  (more : (m : Mode) (p r : ℕ) → is_held m new p r ≡ (is_held m old p r || (is_mode m mode && ((p == page) && (r == q))))) where
+    (s : AreSeated held seats) (own : number_at seats q ≡ Some txn)
+    (more : (m : Mode) (p r : ℕ) → is_held m new p r ≡ (is_held m old p r || (is_mode m mode && ((p == page) && (r == q))))) where
   lock_more : (m : Mode) (n p : ℕ) → has_lock m (locks_of new held) n p ≡ (has_lock m (locks_of old held) n p || (is_mode m mode && ((txn == n) && (p == page))))
   lock_more m n p = elim (seat_or_not held seats n s) [
     | inl f ↦
@@ -76,9 +71,9 @@ module _ (held : List Admitted) (seats : List Seat) (old new : List Holders) (pa
         ∙ ap (λ b. has_lock m (locks_of old held) n p || (is_mode m mode && b)) (and_swap (p == page) (txn == n)))))
     | inr none ↦
         let off : (txn == n) ≡ false = ne_eqb txn n (λ same.
-          let t : is_among (numbers_in held) txn ≡ true = s.admitted q txn own in
-          let f : is_among (numbers_in held) txn ≡ false = ap (is_among (numbers_in held)) same ∙ none in
-          let clash : true ≡ false = sym t ∙ f in cc) in
+        let t : is_among (numbers_in held) txn ≡ true = s.admitted q txn own in
+        let f : is_among (numbers_in held) txn ≡ false = ap (is_among (numbers_in held)) same ∙ none in
+        let clash : true ≡ false = sym t ∙ f in cc) in
         no_lock held new m n p none
         ∙ sym (ap (λ b. b || (is_mode m mode && ((txn == n) && (p == page)))) (no_lock held old m n p none)
         ∙ (ap (λ b. is_mode m mode && (b && (p == page))) off ∙ and_false (is_mode m mode)))
@@ -181,7 +176,7 @@ pub table_adds : (pages : ℕ) (holders : List Holders) (held : List Admitted) (
 table_adds pages holders held seats page q txn mode h t lt low own is added noted as_wide free table =
     let more = held_more holders page q mode h lt added in
     let s = table.seated in record {
-  seated = seated_same held seats q t low (is ∙ sym own) s;
-  covered = covered_more pages holders (set holders page h) seats page q txn mode t (let c = s.count in omega (arith, c)) own is (length-set holders page h) noted as_wide more table.covered;
-  apart = apart_adds mode (locks_of holders held) (locks_of (set holders page h) held) txn page (adds mode held seats holders (set holders page h) page q txn s own more) free table.apart;
-}
+      seated = seated_same held seats q t low (is ∙ sym own) s;
+      covered = covered_more pages holders (set holders page h) seats page q txn mode t (let c = s.count in omega (arith, c)) own is (length-set holders page h) noted as_wide more table.covered;
+      apart = apart_adds mode (locks_of holders held) (locks_of (set holders page h) held) txn page (adds mode held seats holders (set holders page h) page q txn s own more) free table.apart;
+    }

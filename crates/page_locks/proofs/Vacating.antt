@@ -1,6 +1,5 @@
 -- A place that is taken from the holders of pages.
-use Rattle.std.proofs.Common.{◌≡◌, ◌≢◌, ℕ, ◌+◌, ◌-◌, ◌*◌, ◌/◌, ◌%◌, ◌^◌, ◌<◌, ◌≤◌, Bool, true, false, not, ◌||◌, ◌&&◌, ◌==◌, List, length, take, get_or, set, refl, ap, sym, subst, ◌∙◌, ◌⊎◌, inl, inr, arith, bit_and, nat_lt, get_or-set_same, get_or-set_other}
-use Rattle.std.specs.Int.{bit_at}
+use Rattle.std.proofs.Common.{◌≡◌, ◌≢◌, ℕ, ◌+◌, ◌-◌, ◌*◌, ◌/◌, ◌%◌, ◌^◌, ◌<◌, ◌≤◌, Bool, true, false, not, ◌||◌, ◌&&◌, ◌==◌, List, length, take, get_or, set, refl, ap, sym, ◌∙◌, ◌⊎◌, inl, inr, arith, bit_and, nat_lt, get_or-set_same, get_or-set_other}
 use Rattle.std.proofs.lemmas.Bool.{cases_eq, eq-eqb, eqb-true, ne_eqb, cases_Bool, ltb-true, ltb-false}
 use Rattle.std.proofs.lemmas.Nat.{and_le_l}
 use Rattle.std.proofs.lemmas.List.{get_or_past, get_or-take, length-take}
@@ -29,8 +28,8 @@ pub clear_less : (n k : ℕ) → k < 64 → has_bit n k ≡ true → bit_and n (
 clear_less n k lt on =
     let le = and_le_l n (18446744073709551615 - 1 * 2 ^ k % 18446744073709551616) in
     let ne : bit_and n (18446744073709551615 - 1 * 2 ^ k % 18446744073709551616) ≢ n = λ e.
-        let off : has_bit n k ≡ false = ap (λ x. has_bit x k) (sym e) ∙ (has_clear n k k lt lt ∙ (ap (λ b. has_bit n k && not b) (eq-eqb k k refl) ∙ and_false (has_bit n k))) in
-        let clash : true ≡ false = sym on ∙ off in cc in
+    let off : has_bit n k ≡ false = ap (λ x. has_bit x k) (sym e) ∙ (has_clear n k k lt lt ∙ (ap (λ b. has_bit n k && not b) (eq-eqb k k refl) ∙ and_false (has_bit n k))) in
+    let clash : true ≡ false = sym on ∙ off in cc in
     omega (arith, le, ne)
 
 page_is : (page at k : ℕ) → k < 64 → (page == 64 * at + k) ≡ ((page / 64 == at) && (page % 64 == k))
@@ -40,11 +39,11 @@ page_is page at k lt = elim (cases_eq page (64 * at + k)) [
       let r : page % 64 ≡ k = omega arith in
       eq-eqb page (64 * at + k) same ∙ sym (ap (λ b. b && (page % 64 == k)) (eq-eqb (page / 64) at d) ∙ eq-eqb (page % 64) k r)
   | inr ne ↦ ne_eqb page (64 * at + k) ne ∙ sym (elim (cases_eq (page / 64) at) [
-      | inl d ↦
-          let off : page % 64 ≢ k = λ r. ne (omega arith) in
-          ap (λ b. b && (page % 64 == k)) (eq-eqb (page / 64) at d) ∙ ne_eqb (page % 64) k off
-      | inr off ↦ ap (λ b. b && (page % 64 == k)) (ne_eqb (page / 64) at off)
-    ])
+    | inl d ↦
+        let off : page % 64 ≢ k = λ r. ne (omega arith) in
+        ap (λ b. b && (page % 64 == k)) (eq-eqb (page / 64) at d) ∙ ne_eqb (page % 64) k off
+    | inr off ↦ ap (λ b. b && (page % 64 == k)) (ne_eqb (page / 64) at off)
+  ])
 ]
 
 vacates : (H Q A W L B : Bool) → (B ≡ true → L ≡ true) → (L ≡ true → W ≡ true)
@@ -73,7 +72,7 @@ bit_done first now new at word left less place k m page q low lt on within rest 
     ∙ (ap (λ b. b && not ((q == place) && (page == 64 * at + k))) old
     ∙ (ap (λ b. (is_held m first page q && not ((q == place) && ((page / 64 == at) && (has_bit word (page % 64) && not (has_bit left (page % 64)))))) && not ((q == place) && b)) (page_is page at k lt)
     ∙ (vacates (is_held m first page q) (q == place) (page / 64 == at) (has_bit word (page % 64)) (has_bit left (page % 64)) (page % 64 == k)
-      (λ e. ap (has_bit left) (eqb-true (page % 64) k e) ∙ on) (within (page % 64) small)
+    (λ e. ap (has_bit left) (eqb-true (page % 64) k e) ∙ on) (within (page % 64) small)
     ∙ ap (λ b. is_held m first page q && not ((q == place) && ((page / 64 == at) && (has_bit word (page % 64) && not b)))) (sym (rest (page % 64) small)))))
 
 and_not_nothing : (a b : Bool) → b ≡ false → (a && not b) ≡ a

@@ -6,7 +6,7 @@ ghost use Rattle.page_locks.specs.Places.{Adds, IsLeastInWay};
 
 use crate::admitted::{Admitted, drop_admitted};
 use crate::holders::{Holders, Mode, NOBODY, vacate};
-use crate::seats::{Seat, free_place, free_seats, least_number, place_of};
+use crate::seats::{SLOTS, Seat, free_place, free_seats, least_number, note_place, place_of};
 use object_graph::{MOST_OPEN, Memory};
 use std::alloc::Global;
 use std::marker::Model;
@@ -32,6 +32,7 @@ pub struct Locks {
     holders: Vec<Holders>,
     admitted: Vec<Admitted>,
     seats: Vec<Seat>,
+    noted: Vec<u8>,
 }
 
 impl Model for Locks {
@@ -56,11 +57,13 @@ impl Locks {
         let holders = vec![in alloc; NOBODY; pages as usize]?;
         let admitted = Vec::with_capacity(alloc, MOST_OPEN)?;
         let seats = free_seats(alloc, pages)?;
+        let noted = vec![in alloc; 0; SLOTS]?;
         Ok(Locks {
             pages,
             holders,
             admitted,
             seats,
+            noted,
         })
     }
 
@@ -81,10 +84,11 @@ impl Locks {
         ensures unchanged { OnErr result (self.new ≡ self.old) }
         ensures pages { self.new.pages ≡ self.old.pages }
     {
-        let Some(place) = free_place(&self.seats, txn) else {
+        let Some(place) = free_place(&self.seats) else {
             return Err(TooMany);
         };
         self.seats[place].txn = Some(txn);
+        note_place(&mut self.noted, txn, place);
         self.admitted.push_reserved(Admitted { txn, place });
         Ok(())
     }
@@ -93,7 +97,7 @@ impl Locks {
     pub fn admitted(&self, txn: u32) -> bool
         ensures { result ≡ is_admitted self.now.held txn }
     {
-        place_of(&self.seats, txn).is_some()
+        place_of(&self.seats, &self.noted, txn).is_some()
     }
 
     /// Whether `try_shared` would give the lock.
@@ -147,7 +151,7 @@ impl Locks {
         ensures released { Releases self.old.held self.new.held txn }
         ensures pages { self.new.pages ≡ self.old.pages }
     {
-        let Some(place) = place_of(&self.seats, txn) else {
+        let Some(place) = place_of(&self.seats, &self.noted, txn) else {
             return;
         };
         vacate(&mut self.holders, &self.seats[place].pages, place);
@@ -172,7 +176,7 @@ impl Locks {
         ensures free { OnOk result (IsNobody (is_in_way (to_write mode) self.now.held txn page)) }
         ensures busy { IfErr result (λ busy. IsLeast (is_in_way (to_write mode) self.now.held txn page) busy.holder) }
     {
-        let Some(place) = place_of(&self.seats, txn) else {
+        let Some(place) = place_of(&self.seats, &self.noted, txn) else {
             unreachable!();
         };
         match in_way(&self.holders, &self.seats, place, page, mode) {
@@ -191,7 +195,7 @@ impl Locks {
         ensures unchanged { OnErr result (self.new ≡ self.old) }
         ensures pages { self.new.pages ≡ self.old.pages }
     {
-        let Some(place) = place_of(&self.seats, txn) else {
+        let Some(place) = place_of(&self.seats, &self.noted, txn) else {
             unreachable!();
         };
         if let Some(holder) = in_way(&self.holders, &self.seats, place, page, mode) {
@@ -204,13 +208,7 @@ impl Locks {
 }
 
 /// The least number that is in the way of the one at a place.
-fn in_way(
-    holders: &[Holders],
-    seats: &[Seat],
-    place: usize,
-    page: u32,
-    mode: Mode,
-) -> Option<u32>
+fn in_way(holders: &[Holders], seats: &[Seat], place: usize, page: u32, mode: Mode) -> Option<u32>
     requires place { place < 64 }
     requires page { page < length holders.now }
     requires seats { length seats.now ≡ MOST_OPEN }

@@ -7,6 +7,9 @@ use crate::page_set::PageSet;
 use object_graph::{MOST_OPEN, Memory};
 use std::alloc::Global;
 
+/// So many slots note the places of transactions.
+pub const SLOTS: usize = 1_024;
+
 /// Who has a place, and the pages that it may hold.
 #[derive(Drop)]
 pub struct Seat {
@@ -38,42 +41,62 @@ pub fn free_seats(alloc: Global, pages: u32) -> Result<Vec<Seat>, Memory>
     Ok(seats)
 }
 
-/// The place of a transaction.
-pub fn place_of(seats: &[Seat], txn: u32) -> Option<usize>
+/// The place of a transaction. It is mostly where it was noted; where another with the same slot was
+/// noted since, all places are looked at.
+pub fn place_of(seats: &[Seat], noted: &[u8], txn: u32) -> Option<usize>
     requires { length seats.now ≡ MOST_OPEN }
     ensures within { IfSome result (λ place. place < MOST_OPEN) }
     ensures some { IfSome result (λ place. number_at seats.now place ≡ Some txn) }
     ensures none { IfNone result ((q : ℕ) → number_at seats.now q ≢ Some txn) }
 {
-    seat_with(seats, first_place(txn), Some(txn))
+    let place = noted_place(noted, txn);
+    if place < MOST_OPEN && seats[place].txn == Some(txn) {
+        return Some(place);
+    }
+    seat_with(seats, Some(txn))
 }
 
-/// A free place for a transaction.
-pub fn free_place(seats: &[Seat], txn: u32) -> Option<usize>
+fn noted_place(noted: &[u8], txn: u32) -> usize {
+    match noted.get(slot_of(txn)) {
+        Some(place) => *place as usize,
+        None => MOST_OPEN,
+    }
+}
+
+/// Notes the place of a transaction.
+pub fn note_place(noted: &mut [u8], txn: u32, place: usize)
+    requires { place < MOST_OPEN }
+{
+    if let Some(slot) = noted.get_mut(slot_of(txn)) {
+        *slot = place as u8;
+    }
+}
+
+/// Where the place of a transaction is noted: numbers that follow each other, and those of equal
+/// distances, have mostly different slots.
+fn slot_of(txn: u32) -> usize {
+    (txn.wrapping_mul(2_654_435_769) >> 22) as usize
+}
+
+/// The least free place.
+pub fn free_place(seats: &[Seat]) -> Option<usize>
     requires { length seats.now ≡ MOST_OPEN }
     ensures within { IfSome result (λ place. place < MOST_OPEN) }
     ensures some { IfSome result (λ place. number_at seats.now place ≡ None) }
     ensures none { IfNone result ((q : ℕ) → q < MOST_OPEN → number_at seats.now q ≢ None) }
 {
-    seat_with(seats, first_place(txn), None)
+    seat_with(seats, None)
 }
 
-/// Where a transaction is looked for first: numbers that follow each other, and those of equal
-/// distances, have mostly different places.
-fn first_place(txn: u32) -> usize {
-    (txn.wrapping_mul(2_654_435_769) >> 26) as usize
-}
-
-/// The first seat of this number, from a place on and round.
-fn seat_with(seats: &[Seat], first: usize, txn: Option<u32>) -> Option<usize>
+/// The first seat of this number.
+fn seat_with(seats: &[Seat], txn: Option<u32>) -> Option<usize>
     requires { length seats.now ≡ MOST_OPEN }
     ensures within { IfSome result (λ place. place < MOST_OPEN) }
     ensures some { IfSome result (λ place. number_at seats.now place ≡ txn) }
     ensures none { IfNone result ((q : ℕ) → q < MOST_OPEN → number_at seats.now q ≢ txn) }
 {
-    'steps: for step in 0..MOST_OPEN {
-        let place = (first % MOST_OPEN + step) % MOST_OPEN;
-        if seats[place].txn == txn {
+    'places: for (place, seat) in seats.iter().enumerate() {
+        if seat.txn == txn {
             return Some(place);
         }
     }

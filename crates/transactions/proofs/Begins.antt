@@ -14,8 +14,7 @@ use Rattle.store_model.specs.Worlds.{World, Transaction, nothing, find_transacti
 use Rattle.store_model.specs.Causes.{first_met, first_refusal, when, has_page}
 use Rattle.store_model.specs.Replies.{AllowsReply, is_free}
 use Rattle.store_model.specs.Steps.{after_answer}
-use Rattle.page_locks.specs.Holding.{LockTable, numbers, is_admitted, HaveSameLocks}
-use Rattle.page_locks.specs.declared.locks.Held.{Held}
+use Rattle.page_locks.specs.Holding.{Held, LockTable, numbers, is_admitted, HaveSameLocks}
 use Rattle.transactions.specs.Tables.{OpenParts, Entries, entry_of, fresh_entry}
 use Rattle.transactions.specs.Standing.{TransactionsParts, numbers_of, wrote, AreAlike, IsTable, AreLocks, image_in, IsReady, Stands}
 use Rattle.transactions.proofs.Entries.{alike_by}

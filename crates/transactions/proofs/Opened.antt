@@ -11,8 +11,7 @@ use Rattle.store_model.specs.Worlds.{World, Transaction, find_transaction, view}
 use Rattle.store_model.specs.Causes.{has_page}
 use Rattle.store_model.specs.Lawful.{IsLawfulTransaction}
 use Rattle.store_model.proofs.Orders.{IsPlacedName, lawful_one, placed_one}
-use Rattle.page_locks.specs.Holding.{is_admitted, numbers}
-use Rattle.page_locks.specs.declared.locks.Held.{Held}
+use Rattle.page_locks.specs.Holding.{Held, is_admitted, numbers}
 use Rattle.transactions.specs.Tables.{OpenParts, entry_of}
 use Rattle.transactions.specs.Standing.{TransactionsParts, numbers_of, IsEntry, AreAlike, IsReady}
 use Rattle.transactions.proofs.Numbers.{found_in_list, transaction_found}

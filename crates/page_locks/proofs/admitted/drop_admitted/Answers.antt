@@ -1,4 +1,4 @@
-use Rattle.std.proofs.Common.{◌≡◌, List, filter, not, ◌==◌, false, slice_get, IsSomeAnd, remove, arith, sym, subst, ◌∙◌}
+use Rattle.std.proofs.Common.{◌≡◌, List, filter, not, ◌==◌, false, slice_get, IsSomeAnd, remove, sym, subst, ◌∙◌}
 use Rattle.page_locks.specs.Places.{numbers_in, is_among}
 use Rattle.page_locks.specs.declared.admitted.Admitted.{Admitted}
 use Rattle.page_locks.proofs.Order.{others_stay, remove_is_filter, found_at}

@@ -1,4 +1,4 @@
-use Rattle.std.proofs.Common.{◌≡◌, ℕ, ◌<◌, List, length, get_or, ap, sym, subst, ◌∙◌, arith}
+use Rattle.std.proofs.Common.{◌≡◌, ℕ, ◌<◌, List, length, get_or, ap, subst, ◌∙◌}
 use Rattle.page_locks.proofs.Vacating.{word_done}
 use Rattle.page_locks.proofs.holders.vacate.Goals as goal
 

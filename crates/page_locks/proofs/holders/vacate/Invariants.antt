@@ -1,4 +1,4 @@
-use Rattle.std.proofs.Common.{◌≡◌, ℕ, ◌/◌, ◌<◌, ◌&&◌, ◌==◌, not, take, length}
+use Rattle.std.proofs.Common.{◌≡◌, ℕ, ◌<◌, ◌&&◌, ◌==◌, not, take, length}
 use Rattle.page_locks.specs.Sets.{in_set}
 use Rattle.page_locks.specs.Words.{is_held}
 use Rattle.page_locks.proofs.holders.vacate.Given as goal
@@ -6,5 +6,5 @@ use Rattle.page_locks.proofs.holders.vacate.Given as goal
 abbrev pub invariant-words : goal.invariant-words
 invariant-words l =
     ((m : _) (page q : ℕ) → q < 64 → is_held m l.holders page q
-      ≡ (is_held m l.initial.holders page q && not ((q == l.place) && in_set (take l.at l.pages) page)))
+    ≡ (is_held m l.initial.holders page q && not ((q == l.place) && in_set (take l.at l.pages) page)))
     × (length l.holders ≡ length l.initial.holders)

@@ -1,7 +1,6 @@
-use Rattle.std.proofs.Common.{◌≡◌, ◌==◌, ℕ, ◌<◌, ◌+◌, ◌*◌, ◌-◌, ◌^◌, ◌%◌, true, bit_and, length, refl, ap, sym, ◌∙◌, arith}
+use Rattle.std.proofs.Common.{◌≡◌, ◌==◌, ℕ, ◌<◌, ◌+◌, ◌*◌, ◌-◌, ◌^◌, ◌%◌, true, bit_and, ap, sym, ◌∙◌, arith}
 use Rattle.std.specs.Int.{w64, trailing_zeros}
 use Rattle.std.proofs.lemmas.Nat.Bits.{bit_at-trailing_zeros}
-use Rattle.std.proofs.lemmas.List.{length-set}
 use Rattle.std.proofs.lemmas.Bool.{and_parts}
 use Rattle.page_locks.specs.Sets.{has_bit}
 use Rattle.page_locks.specs.Words.{is_held}
@@ -28,11 +27,11 @@ bits-preserved c =
       λ m page q lt. bit_done c.args.holders.now c.bits.holders c.if-page-holders.holders c.args.at c.args.word c.bits.left
           (bit_and c.bits.left (18446744073709551615 - 1 * 2 ^ k % 18446744073709551616)) c.args.place k m page q lt low.0 low.1
           c.bits.invariant.1 rest (c.bits.invariant.0 m page q lt) (elim c.if-page-holders.branch [
-          | then-page-holders w ↦ ap (λ hs. is_held m hs page q) w.holders-is
-              ∙ page_vacated c.bits.holders (64 * c.args.at + k) c.args.place w.remove.new.self m page q w.if-page-holders.true (w.remove.ensures m q lt)
-          | else-page-holders w ↦ ap (λ hs. is_held m hs page q) w.holders-is
-              ∙ page_past c.bits.holders (64 * c.args.at + k) c.args.place m page q w.if-page-holders.false
-        ]),
+            | then-page-holders w ↦ ap (λ hs. is_held m hs page q) w.holders-is
+                ∙ page_vacated c.bits.holders (64 * c.args.at + k) c.args.place w.remove.new.self m page q w.if-page-holders.true (w.remove.ensures m q lt)
+            | else-page-holders w ↦ ap (λ hs. is_held m hs page q) w.holders-is
+                ∙ page_past c.bits.holders (64 * c.args.at + k) c.args.place m page q w.if-page-holders.false
+          ]),
       λ i lt e. c.bits.invariant.1 i lt (and_parts (has_bit c.bits.left i) _ (sym (rest i lt) ∙ e)).0,
       c.if-page-holders.auto.holders ∙ c.bits.invariant.2,
     )

@@ -1,4 +1,4 @@
-use Rattle.std.proofs.Common.{◌||◌, ◌==◌, sym, ◌∙◌}
+use Rattle.std.proofs.Common.{sym}
 use Rattle.page_locks.specs.Sets.{has_bit}
 use Rattle.page_locks.proofs.Bits.{or_false, has_set}
 use Rattle.page_locks.proofs.Modes.{each_mode}

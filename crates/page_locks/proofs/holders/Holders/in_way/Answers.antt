@@ -1,4 +1,4 @@
-use Rattle.std.proofs.Common.{◌≡◌, Bool, true, false, ◌&&◌, ◌||◌, ◌==◌, not, bit_and, bit_or, ap, refl, ◌∙◌}
+use Rattle.std.proofs.Common.{◌≡◌, Bool, true, false, ◌&&◌, ◌==◌, not, ap, refl, ◌∙◌}
 use Rattle.page_locks.specs.Sets.{has_bit}
 use Rattle.page_locks.specs.Words.{conflicts}
 use Rattle.page_locks.proofs.Bits.{has_clear, has_or}

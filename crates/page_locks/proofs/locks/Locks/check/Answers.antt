@@ -1,8 +1,7 @@
-use Rattle.std.proofs.Common.{◌≡◌, ◌≢◌, ℕ, ◌<◌, ◌&&◌, ◌||◌, ◌==◌, true, false, Option, Some, None, List, length, set, ap, sym, subst, ◌∙◌, arith}
-use Rattle.page_locks.specs.Words.{to_write, is_mode}
+use Rattle.std.proofs.Common.{◌≡◌, true, false, Some, None, List, ap, sym, subst, ◌∙◌}
+use Rattle.page_locks.specs.Words.{to_write}
 use Rattle.page_locks.specs.Holding.{LockTable, is_admitted, is_in_way, IsNobody, IsLeast}
-use Rattle.page_locks.specs.Places.{number_at, locks_of, numbers_in, is_among, Adds, AreSeated, IsTable, IsLeastInWay}
-use Rattle.page_locks.specs.declared.admitted.Admitted.{Admitted}
+use Rattle.page_locks.specs.Places.{number_at, numbers_in, is_among, AreSeated, IsLeastInWay}
 use Rattle.page_locks.specs.declared.holders.Holders.{Holders}
 use Rattle.page_locks.specs.declared.seats.Seat.{Seat}
 use Rattle.page_locks.proofs.Modes.{admitted-locks_of}
@@ -26,8 +25,8 @@ returns-in-None-clause-free c =
     let seats = c.self.inside.seats.items in
     let own : number_at seats c.in-Some.place ≡ Some c.args.txn = subst (λ (ss : List Seat). number_at ss c.in-Some.place ≡ Some c.args.txn) c.deref.ensures.value c.in-Some.ensures.some in
     let way : IsLeastInWay holders seats c.in-Some.place c.args.page c.args.mode None =
-    subst (λ (hs : List Holders). IsLeastInWay hs seats c.in-Some.place c.args.page c.args.mode None) c.deref-2.ensures.value
-    (subst (λ (ss : List Seat). IsLeastInWay c.deref-2.result.now ss c.in-Some.place c.args.page c.args.mode None) c.deref-3.ensures.value c.in-None.ensures) in
+    subst (λ (hs : List Holders). IsLeastInWay hs seats c.in-Some.place c.args.page c.args.mode None) c.deref-3.ensures.value
+    (subst (λ (ss : List Seat). IsLeastInWay c.deref-3.result.now ss c.in-Some.place c.args.page c.args.mode None) c.deref-4.ensures.value c.in-None.ensures) in
     subst (λ (t : LockTable). IsNobody (is_in_way (to_write c.args.mode) t.held c.args.txn c.args.page)) c.self.view_is
     (nobody_in_way held seats holders c.args.mode c.args.txn c.args.page c.in-Some.place c.self.invariant.1.seated own way)
 
@@ -39,7 +38,7 @@ returns-in-Some-in_way-clause-busy c =
     let least = c.in-Some-in_way.holder in
     let own : number_at seats c.in-Some.place ≡ Some c.args.txn = subst (λ (ss : List Seat). number_at ss c.in-Some.place ≡ Some c.args.txn) c.deref.ensures.value c.in-Some.ensures.some in
     let way : IsLeastInWay holders seats c.in-Some.place c.args.page c.args.mode (Some least) =
-    subst (λ (hs : List Holders). IsLeastInWay hs seats c.in-Some.place c.args.page c.args.mode (Some least)) c.deref-2.ensures.value
-    (subst (λ (ss : List Seat). IsLeastInWay c.deref-2.result.now ss c.in-Some.place c.args.page c.args.mode (Some least)) c.deref-3.ensures.value c.in-Some-in_way.ensures) in
+    subst (λ (hs : List Holders). IsLeastInWay hs seats c.in-Some.place c.args.page c.args.mode (Some least)) c.deref-3.ensures.value
+    (subst (λ (ss : List Seat). IsLeastInWay c.deref-3.result.now ss c.in-Some.place c.args.page c.args.mode (Some least)) c.deref-4.ensures.value c.in-Some-in_way.ensures) in
     subst (λ (t : LockTable). IsLeast (is_in_way (to_write c.args.mode) t.held c.args.txn c.args.page) least) c.self.view_is
     (least_in_way held seats holders c.args.mode c.args.txn c.args.page c.in-Some.place c.self.invariant.1.seated own least way)

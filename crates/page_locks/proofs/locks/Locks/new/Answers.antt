@@ -1,4 +1,4 @@
-use Rattle.std.proofs.Common.{◌≡◌, List, replicate, sym, subst, ◌∙◌}
+use Rattle.std.proofs.Common.{List, replicate, sym, subst}
 use Rattle.page_locks.specs.Words.{nobody}
 use Rattle.page_locks.specs.Places.{IsTable}
 use Rattle.page_locks.specs.declared.admitted.Admitted.{Admitted}

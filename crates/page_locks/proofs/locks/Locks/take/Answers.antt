@@ -1,9 +1,8 @@
-use Rattle.std.proofs.Common.{◌≡◌, ◌≢◌, ℕ, ◌<◌, ◌&&◌, ◌||◌, ◌==◌, true, false, Option, Some, None, List, length, set, ap, sym, subst, ◌∙◌, arith}
+use Rattle.std.proofs.Common.{◌≡◌, ℕ, ◌<◌, ◌&&◌, ◌||◌, ◌==◌, true, false, Option, Some, None, List, length, set, ap, sym, subst, ◌∙◌, arith}
 use Rattle.page_locks.specs.Sets.{has_bit, in_set}
 use Rattle.page_locks.specs.Words.{word_of, holders_at, to_write, is_mode}
 use Rattle.page_locks.specs.Holding.{LockTable, is_admitted, is_in_way, IsNobody, IsLeast}
-use Rattle.page_locks.specs.Places.{number_at, seat_at, may_hold, locks_of, numbers_in, is_among, Adds, AreSeated, IsTable, IsLeastInWay}
-use Rattle.page_locks.specs.declared.admitted.Admitted.{Admitted}
+use Rattle.page_locks.specs.Places.{number_at, seat_at, locks_of, numbers_in, is_among, Adds, AreSeated, IsLeastInWay}
 use Rattle.page_locks.specs.declared.holders.Holders.{Holders}
 use Rattle.page_locks.specs.declared.seats.Seat.{Seat}
 use Rattle.page_locks.specs.declared.holders.Mode.{Mode}
@@ -30,8 +29,8 @@ returns-in-Some-in_way-clause-busy c =
     let least = c.in-Some-in_way.holder in
     let own : number_at seats c.in-Some.place ≡ Some c.args.txn = subst (λ (ss : List Seat). number_at ss c.in-Some.place ≡ Some c.args.txn) c.deref.ensures.value c.in-Some.ensures.some in
     let way : IsLeastInWay holders seats c.in-Some.place c.args.page c.args.mode (Some least) =
-    subst (λ (hs : List Holders). IsLeastInWay hs seats c.in-Some.place c.args.page c.args.mode (Some least)) c.deref-2.ensures.value
-    (subst (λ (ss : List Seat). IsLeastInWay c.deref-2.result.now ss c.in-Some.place c.args.page c.args.mode (Some least)) c.deref-3.ensures.value c.in-Some-in_way.ensures) in
+    subst (λ (hs : List Holders). IsLeastInWay hs seats c.in-Some.place c.args.page c.args.mode (Some least)) c.deref-3.ensures.value
+    (subst (λ (ss : List Seat). IsLeastInWay c.deref-3.result.now ss c.in-Some.place c.args.page c.args.mode (Some least)) c.deref-4.ensures.value c.in-Some-in_way.ensures) in
     subst (λ (t : LockTable). IsLeast (is_in_way (to_write c.args.mode) t.held c.args.txn c.args.page) least) c.self.view_is
     (least_in_way held seats holders c.args.mode c.args.txn c.args.page c.in-Some.place c.self.invariant.1.seated own least way)
 
@@ -43,9 +42,9 @@ free c =
     let holders = c.self.inside.holders.items in
     let seats = c.self.inside.seats.items in
     let way : IsLeastInWay holders seats c.in-Some.place c.args.page c.args.mode None =
-    subst (λ (hs : List Holders). IsLeastInWay hs seats c.in-Some.place c.args.page c.args.mode None) c.deref-2.ensures.value
-    (subst (λ (ss : List Seat). IsLeastInWay c.deref-2.result.now ss c.in-Some.place c.args.page c.args.mode None) c.deref-3.ensures.value
-    (subst (λ (o : Option ℕ). IsLeastInWay c.deref-2.result.now c.deref-3.result.now c.in-Some.place c.args.page c.args.mode o) c.in_default-in_way.is c.in_way.ensures)) in
+    subst (λ (hs : List Holders). IsLeastInWay hs seats c.in-Some.place c.args.page c.args.mode None) c.deref-3.ensures.value
+    (subst (λ (ss : List Seat). IsLeastInWay c.deref-3.result.now ss c.in-Some.place c.args.page c.args.mode None) c.deref-4.ensures.value
+    (subst (λ (o : Option ℕ). IsLeastInWay c.deref-3.result.now c.deref-4.result.now c.in-Some.place c.args.page c.args.mode o) c.in_default-in_way.is c.in_way.ensures)) in
     nobody_in_way c.self.inside.admitted.items seats holders c.args.mode c.args.txn c.args.page c.in-Some.place c.self.invariant.1.seated (own c) way
 
 within : (c : goal.After-self-2-1) → c.args.page < length c.self.inside.holders.items
