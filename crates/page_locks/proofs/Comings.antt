@@ -8,10 +8,10 @@ use Rattle.std.proofs.lemmas.List.Folds.{list_any-append}
 use Rattle.std.proofs.lemmas.List.Elements.{All-nil, All-filter, All-push}
 use Rattle.std.proofs.lemmas.Map.Keys.{IsDistinct-push}
 use Rattle.object_graph.specs.declared.limits.TheConstants.{MOST_OPEN}
-use Rattle.page_locks.specs.Sets.{has_bit, in_set, HasRoom}
+use Rattle.page_locks.specs.Sets.{has_bit, in_set, HasRoom, is_among}
 use Rattle.page_locks.specs.Words.{word_of, is_held}
 use Rattle.page_locks.specs.Holding.{KeepsApart, HaveSameLocks, Releases}
-use Rattle.page_locks.specs.Places.{free_seat, seat_at, number_at, may_hold, free_or_not, count_free, locks_of, numbers_in, is_among, AreSeated, AreCovered, IsTable}
+use Rattle.page_locks.specs.Places.{free_seat, seat_at, number_at, may_hold, free_or_not, count_free, locks_of, numbers_in, AreSeated, AreCovered, IsTable}
 use Rattle.page_locks.specs.declared.admitted.Admitted.{Admitted}
 use Rattle.page_locks.specs.declared.holders.Holders.{Holders}
 use Rattle.page_locks.specs.declared.holders.Mode.{Mode}

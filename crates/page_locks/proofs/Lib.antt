@@ -6,5 +6,6 @@ pub mod Modes
 pub mod Order
 pub mod Seated
 pub mod Table
+pub mod Used
 pub mod Vacating
 pub mod Way

@@ -2,10 +2,10 @@
 use Rattle.std.proofs.Common.{◌≡◌, ℕ, ◌==◌, Bool, false, ◌&&◌, ◌||◌, List, [], ◌∷◌, get_or, refl, ap, sym, ◌∙◌}
 use Rattle.std.specs.List.{list_any}
 use Rattle.std.proofs.Math.ListN.{get_or-map}
-use Rattle.page_locks.specs.Sets.{has_bit}
+use Rattle.page_locks.specs.Sets.{has_bit, is_among}
 use Rattle.page_locks.specs.Words.{word_of, nobody, is_held}
 use Rattle.page_locks.specs.Holding.{Held, is_in, shares, excludes, numbers, is_admitted}
-use Rattle.page_locks.specs.Places.{pages_of, locks_of, numbers_in, is_among}
+use Rattle.page_locks.specs.Places.{pages_of, locks_of, numbers_in}
 use Rattle.page_locks.specs.declared.admitted.Admitted.{Admitted}
 use Rattle.page_locks.specs.declared.holders.Holders.{Holders}
 use Rattle.page_locks.specs.declared.holders.Mode.{Mode}

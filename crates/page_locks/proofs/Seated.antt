@@ -6,8 +6,9 @@ use Rattle.std.proofs.lemmas.List.{get_or_default}
 use Rattle.std.proofs.lemmas.List.Elements.{recursion_from_All}
 use Rattle.std.proofs.lemmas.List.Sums.{sum_by-set, sum_by-cons}
 use Rattle.object_graph.specs.declared.limits.TheConstants.{MOST_OPEN}
+use Rattle.page_locks.specs.Sets.{is_among}
 use Rattle.page_locks.specs.Words.{nobody, holders_at, is_held}
-use Rattle.page_locks.specs.Places.{free_seat, seat_at, number_at, free_or_not, count_free, locks_of, numbers_in, is_among, AreSeated}
+use Rattle.page_locks.specs.Places.{free_seat, seat_at, number_at, free_or_not, count_free, locks_of, numbers_in, AreSeated}
 use Rattle.page_locks.specs.declared.admitted.Admitted.{Admitted}
 use Rattle.page_locks.specs.declared.holders.Holders.{Holders}
 use Rattle.page_locks.specs.declared.holders.Mode.{Mode}

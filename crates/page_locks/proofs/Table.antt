@@ -4,10 +4,10 @@ use Rattle.std.specs.Cmp.{nat_eq_equiv}
 use Rattle.std.proofs.lemmas.Bool.{or_cases, cases_eq, eq-eqb, eqb-true, ne_eqb, and_parts}
 use Rattle.std.proofs.lemmas.List.{length-set}
 use Rattle.object_graph.specs.declared.limits.TheConstants.{MOST_OPEN}
-use Rattle.page_locks.specs.Sets.{has_bit, in_set, HasRoom}
+use Rattle.page_locks.specs.Sets.{has_bit, in_set, HasRoom, is_among}
 use Rattle.page_locks.specs.Words.{word_of, is_mode, to_write, holders_at, is_held}
 use Rattle.page_locks.specs.Holding.{Held, numbers, is_in_way, IsNobody, KeepsApart}
-use Rattle.page_locks.specs.Places.{free_seat, seat_at, number_at, may_hold, free_or_not, locks_of, numbers_in, is_among, Adds, AreSeated, AreCovered, IsTable}
+use Rattle.page_locks.specs.Places.{free_seat, seat_at, number_at, may_hold, free_or_not, locks_of, numbers_in, Adds, AreSeated, AreCovered, IsTable}
 use Rattle.page_locks.specs.declared.admitted.Admitted.{Admitted}
 use Rattle.page_locks.specs.declared.holders.Holders.{Holders}
 use Rattle.page_locks.specs.declared.holders.Mode.{Mode}

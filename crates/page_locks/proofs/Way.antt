@@ -2,9 +2,10 @@
 use Rattle.std.proofs.Common.{◌≡◌, ℕ, Bool, true, false, not, ◌||◌, ◌&&◌, ◌==◌, Option, Some, None, List, refl, ap, sym, ◌∙◌, inl, inr}
 use Rattle.std.proofs.lemmas.Bool.{cases_Bool}
 use Rattle.object_graph.specs.declared.limits.TheConstants.{MOST_OPEN}
+use Rattle.page_locks.specs.Sets.{is_among}
 use Rattle.page_locks.specs.Words.{conflicts, holders_at, is_held, to_write}
 use Rattle.page_locks.specs.Holding.{is_in_way, shares, excludes, IsNobody, IsLeast}
-use Rattle.page_locks.specs.Places.{number_at, locks_of, numbers_in, is_among, AreSeated, IsMarked, IsLeastInWay}
+use Rattle.page_locks.specs.Places.{number_at, locks_of, numbers_in, AreSeated, IsMarked, IsLeastInWay}
 use Rattle.page_locks.specs.declared.admitted.Admitted.{Admitted}
 use Rattle.page_locks.specs.declared.holders.Holders.{Holders}
 use Rattle.page_locks.specs.declared.holders.Mode.{Mode}

@@ -1,8 +1,8 @@
 -- The places of transactions, and the locks that they make.
 use Rattle.std.specs.Prelude.{◌≡◌, ℕ, ◌+◌, ◌<◌, ◌≤◌, Bool, true, false, not, ◌&&◌, ◌==◌, Option, Some, None, List, [], length, map, nat_eq, nat_lt, if◌then◌else◌, slice_index_or}
-use Rattle.std.specs.List.{list_any, sum_by, All, IsDistinct}
+use Rattle.std.specs.List.{sum_by, All, IsDistinct}
 use Rattle.object_graph.specs.declared.limits.TheConstants.{MOST_OPEN}
-use Rattle.page_locks.specs.Sets.{has_bit, in_set, HasRoom}
+use Rattle.page_locks.specs.Sets.{has_bit, in_set, is_among, HasRoom}
 use Rattle.page_locks.specs.Words.{word_of, holders_at, is_held, conflicts}
 use Rattle.page_locks.specs.Holding.{Held, KeepsApart, AddsShared, AddsExclusive}
 use Rattle.page_locks.specs.declared.holders.Holders.{Holders}
@@ -44,9 +44,6 @@ locks_of holders admitted =
 
 abbrev pub numbers_in : List Admitted → List ℕ
 numbers_in admitted = map (λ a. a.txn) admitted
-
-abbrev pub is_among : List ℕ → ℕ → Bool
-is_among numbers n = list_any (λ k. k == n) numbers
 
 -- all places are free, and have room for the pages below a count
 pub record AreFresh (pages : ℕ) (seats : List Seat) : Type 0 where

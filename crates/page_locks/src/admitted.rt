@@ -1,7 +1,8 @@
 //! Those admitted, in the order of their admission.
 ghost use Rattle.std.specs.Prelude.{◌≡◌, ◌==◌, false, not, filter, nat_eq, IfNone, IfSome, IsSomeAnd, slice_get, vec_capacity};
 ghost use Rattle.std.specs.List.{IsDistinct};
-ghost use Rattle.page_locks.specs.Places.{numbers_in, is_among};
+ghost use Rattle.page_locks.specs.Sets.{is_among};
+ghost use Rattle.page_locks.specs.Places.{numbers_in};
 
 /// A transaction that is admitted, and its place.
 #[derive(Clone, Copy, Debug)]

@@ -64,8 +64,9 @@ pub fn vacate(holders: &mut [Holders], pages: &PageSet, place: usize)
     ensures vacated { (m : _) (page q : ℕ) → q < 64 → is_held m holders.new page q ≡ (is_held m holders.old page q && not ((q == place) && in_set pages.now page)) }
     ensures count { length holders.new ≡ length holders.old }
 {
-    'words: for (at, word) in pages.words().iter().enumerate() {
-        vacate_word(holders, at, *word, place);
+    'used: for at in pages.used() {
+        let at = *at as usize;
+        vacate_word(holders, at, pages.word(at), place);
     }
 }
 

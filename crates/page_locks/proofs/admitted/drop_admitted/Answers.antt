@@ -1,5 +1,6 @@
 use Rattle.std.proofs.Common.{◌≡◌, List, filter, not, ◌==◌, false, slice_get, IsSomeAnd, remove, sym, subst, ◌∙◌}
-use Rattle.page_locks.specs.Places.{numbers_in, is_among}
+use Rattle.page_locks.specs.Sets.{is_among}
+use Rattle.page_locks.specs.Places.{numbers_in}
 use Rattle.page_locks.specs.declared.admitted.Admitted.{Admitted}
 use Rattle.page_locks.proofs.Order.{others_stay, remove_is_filter, found_at}
 use Rattle.page_locks.proofs.admitted.drop_admitted.Goals as goal

@@ -1,7 +1,8 @@
 use Rattle.std.proofs.Common.{◌≡◌, ◌≢◌, ◌++◌, ◌∷◌, [], ℕ, ◌<◌, List, length, set, false, Some, None, ap, sym, subst, ◌∙◌, arith}
 use Rattle.object_graph.specs.declared.limits.TheConstants.{MOST_OPEN}
+use Rattle.page_locks.specs.Sets.{is_among}
 use Rattle.page_locks.specs.Holding.{LockTable, HaveSameLocks, is_admitted}
-use Rattle.page_locks.specs.Places.{number_at, seat_at, locks_of, numbers_in, is_among, IsTable}
+use Rattle.page_locks.specs.Places.{number_at, seat_at, locks_of, numbers_in, IsTable}
 use Rattle.page_locks.specs.declared.admitted.Admitted.{Admitted}
 use Rattle.page_locks.specs.declared.seats.Seat.{Seat}
 use Rattle.page_locks.proofs.Modes.{admitted-locks_of}

@@ -1,6 +1,7 @@
 use Rattle.std.proofs.Common.{◌≡◌, ◌≢◌, ℕ, Option, Some, None, is_some, List, IfSome, IfNone, ap, sym, subst, ◌∙◌}
+use Rattle.page_locks.specs.Sets.{is_among}
 use Rattle.page_locks.specs.Holding.{LockTable, is_admitted}
-use Rattle.page_locks.specs.Places.{number_at, numbers_in, is_among, AreSeated}
+use Rattle.page_locks.specs.Places.{number_at, numbers_in, AreSeated}
 use Rattle.page_locks.specs.declared.admitted.Admitted.{Admitted}
 use Rattle.page_locks.specs.declared.seats.Seat.{Seat}
 use Rattle.page_locks.proofs.Modes.{admitted-locks_of}

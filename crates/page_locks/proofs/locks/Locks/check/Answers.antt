@@ -1,7 +1,8 @@
 use Rattle.std.proofs.Common.{◌≡◌, true, false, Some, None, List, ap, sym, subst, ◌∙◌}
+use Rattle.page_locks.specs.Sets.{is_among}
 use Rattle.page_locks.specs.Words.{to_write}
 use Rattle.page_locks.specs.Holding.{LockTable, is_admitted, is_in_way, IsNobody, IsLeast}
-use Rattle.page_locks.specs.Places.{number_at, numbers_in, is_among, AreSeated, IsLeastInWay}
+use Rattle.page_locks.specs.Places.{number_at, numbers_in, AreSeated, IsLeastInWay}
 use Rattle.page_locks.specs.declared.holders.Holders.{Holders}
 use Rattle.page_locks.specs.declared.seats.Seat.{Seat}
 use Rattle.page_locks.proofs.Modes.{admitted-locks_of}

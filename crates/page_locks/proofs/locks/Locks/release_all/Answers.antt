@@ -1,10 +1,10 @@
 use Rattle.std.proofs.Common.{◌≡◌, ◌&&◌, ◌==◌, ◌++◌, ℕ, ◌<◌, not, filter, List, length, take, drop, set, false, Some, ap, sym, subst, ◌∙◌, arith}
 use Rattle.std.proofs.lemmas.Grind.{common_steps}
 use Rattle.object_graph.specs.declared.limits.TheConstants.{MOST_OPEN}
-use Rattle.page_locks.specs.Sets.{in_set}
+use Rattle.page_locks.specs.Sets.{in_set, is_among}
 use Rattle.page_locks.specs.Words.{is_held}
 use Rattle.page_locks.specs.Holding.{LockTable, Releases}
-use Rattle.page_locks.specs.Places.{number_at, seat_at, may_hold, locks_of, numbers_in, is_among, AreSeated, IsTable}
+use Rattle.page_locks.specs.Places.{number_at, seat_at, may_hold, locks_of, numbers_in, AreSeated, IsTable}
 use Rattle.page_locks.specs.declared.admitted.Admitted.{Admitted}
 use Rattle.page_locks.specs.declared.holders.Holders.{Holders}
 use Rattle.page_locks.specs.declared.holders.Mode.{Mode}

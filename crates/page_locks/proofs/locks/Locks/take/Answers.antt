@@ -1,8 +1,8 @@
 use Rattle.std.proofs.Common.{◌≡◌, ℕ, ◌<◌, ◌&&◌, ◌||◌, ◌==◌, true, false, Option, Some, None, List, length, set, ap, sym, subst, ◌∙◌, arith}
-use Rattle.page_locks.specs.Sets.{has_bit, in_set}
+use Rattle.page_locks.specs.Sets.{has_bit, in_set, is_among}
 use Rattle.page_locks.specs.Words.{word_of, holders_at, to_write, is_mode}
 use Rattle.page_locks.specs.Holding.{LockTable, is_admitted, is_in_way, IsNobody, IsLeast}
-use Rattle.page_locks.specs.Places.{number_at, seat_at, locks_of, numbers_in, is_among, Adds, AreSeated, IsLeastInWay}
+use Rattle.page_locks.specs.Places.{number_at, seat_at, locks_of, numbers_in, Adds, AreSeated, IsLeastInWay}
 use Rattle.page_locks.specs.declared.holders.Holders.{Holders}
 use Rattle.page_locks.specs.declared.seats.Seat.{Seat}
 use Rattle.page_locks.specs.declared.holders.Mode.{Mode}
