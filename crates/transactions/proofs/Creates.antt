@@ -1,67 +1,65 @@
 -- What a call for a new object does.
-use Rattle.std.proofs.Common.{◌≡◌, ℕ, ◌+◌, ◌<◌, Bool, true, false, List, [], ◌∷◌, length, Option, Some, None, refl, sym, subst, ap, ◌∙◌, arith, nat_le}
-use Rattle.std.specs.Option.{option_map, is_none}
+use Rattle.std.proofs.Common.{◌≡◌, ℕ, ◌+◌, ◌<◌, Bool, true, false, List, [], ◌∷◌, ◌++◌, length, Option, Some, None, refl, sym, subst, ap, ◌∙◌, arith, nat_le}
+use Rattle.std.specs.Option.{option_map, option_or, is_none}
 use Rattle.object_graph.specs.NameParts.{NameParts}
 use Rattle.object_graph.specs.SlotParts.{SlotParts}
 use Rattle.object_graph.specs.declared.calls.Call.TheVariants.{New}
 use Rattle.object_graph.specs.declared.calls.Reply.TheVariants.{Made}
 use Rattle.object_graph.specs.declared.calls.Refusal.{Refusal}
-use Rattle.object_graph.specs.declared.calls.Refusal.TheVariants.{Busy, TooWide, KnowsTooMany, PageFull}
+use Rattle.object_graph.specs.declared.calls.Refusal.TheVariants.{KnowsTooMany, PageFull}
 use Rattle.object_graph.specs.Graphs.{objects_at}
 use Rattle.object_graph.proofs.Paths.{name_of}
 use Rattle.object_graph.specs.declared.limits.TheConstants.{MOST_KNOWN}
 use Rattle.store_model.specs.Worlds.{World, Transaction, nothing, view, slots_of, fields_of}
 use Rattle.store_model.specs.Images.{shown_slot}
-use Rattle.store_model.specs.Causes.{first_met, first_refusal, when, no_page, busy_to_write, too_wide, knows_too_many, page_full, free_slot, name_at, new_name}
+use Rattle.store_model.specs.Causes.{first_met, first_refusal, when, no_page, knows_too_many, page_full, free_slot, name_at, new_name}
 use Rattle.store_model.specs.Replies.{AnswersNew}
 use Rattle.store_model.specs.Steps.{with_page, with_target, with_transaction, with_new, makes}
 use Rattle.page_image.specs.Slots.{fresh_slot, has_room, taken}
 use Rattle.page_image.specs.Pages.{PageParts, slot_at, with_slot, IsFull, IsNextName}
 use Rattle.page_buffer.specs.Frames.{frame_at, with_frame, written}
-use Rattle.page_locks.specs.Holding.{is_in_way, IsNobody, IsLeast, AddsExclusive}
-use Rattle.transactions.specs.Tables.{OpenParts, is_wide, HaveSamePages, HaveSameNames, ChangesEntry, NotesPage, NotesTarget}
-use Rattle.transactions.specs.Standing.{TransactionsParts, image_in, IsEntry, AreFramesOf, Stands}
+use Rattle.page_locks.specs.Holding.{is_in_way, IsNobody, AddsExclusive}
+use Rattle.transactions.specs.Tables.{OpenParts, HaveSamePages, HaveSameNames, ChangesEntry, NotesPage, NotesTarget}
+use Rattle.transactions.specs.Standing.{TransactionsParts, image_in, IsEntry, AreFramesOf, IsReady, Stands}
+use Rattle.transactions.specs.Checks.{FirstMet, open_causes, write_causes, IsOpenWith, MayWrite}
 use Rattle.transactions.proofs.Shown.{length-shown, get-shown}
 use Rattle.transactions.proofs.FreeSlots.{first_free, none_free}
 use Rattle.transactions.proofs.Made.{IsFreePlace, free_place, new_on_page, new_on_another_page, free_generation}
 use Rattle.transactions.proofs.Entries.{table_changes, ChangesTwice, same_pages, same_names, same_with_page, same_with_target}
 use Rattle.transactions.proofs.LocksHeld.{locks_exclude}
 use Rattle.transactions.proofs.FramesSeen.{sees, frames_change}
-use Rattle.transactions.proofs.Opened.{IsOpened, open_lawful}
-use Rattle.transactions.proofs.Refusals.{is_open, is_page, may_write, is_busy_to_write, wide_by, full_by, nobody_wrote}
+use Rattle.transactions.proofs.Opened.{IsOpened, open_in, open_lawful, page_below}
+use Rattle.transactions.proofs.Refusals.{causes_before, is_page, full_by, nobody_wrote}
 
 -- ---- the causes
 
-abbrev from_wide : World → ℕ → ℕ → List (Option Refusal)
-from_wide w txn page = too_wide w txn page ∷ knows_too_many w txn ∷ page_full w txn page ∷ []
+-- those that come after the ones of writing the page
+abbrev pub making_causes : ℕ → ℕ → World → List (Option Refusal)
+making_causes txn page w = knows_too_many w txn ∷ page_full w txn page ∷ []
 
-to_page : (s : TransactionsParts) (w : World) (txn : ℕ) (e : OpenParts) (page : ℕ) → IsOpened s w txn e → page < w.pages
-    → first_refusal w (New txn page) nothing ≡ first_met (busy_to_write w txn page ∷ from_wide w txn page)
-to_page s w txn e page o low =
-    is_open s w txn e (no_page w page ∷ busy_to_write w txn page ∷ from_wide w txn page) o ∙ is_page w page (busy_to_write w txn page ∷ from_wide w txn page) low
+pub new_causes : (s : TransactionsParts) (w : World) (txn page : ℕ) (why : Option Refusal) → IsReady s w → page < length s.frames → FirstMet s (open_causes txn) None → FirstMet s (write_causes txn page) why
+    → first_refusal w (New txn page) nothing ≡ option_or why (first_met (making_causes txn page w))
+new_causes s w txn page why ready low asked written =
+    causes_before (open_causes txn w) (no_page w page ∷ write_causes txn page w ++ making_causes txn page w) None (asked w ready)
+    ∙ (is_page w page (write_causes txn page w ++ making_causes txn page w) (page_below s w page ready low)
+    ∙ causes_before (write_causes txn page w) (making_causes txn page w) why (written w ready))
 
-pub create_busy : (s : TransactionsParts) (w : World) (txn : ℕ) (e : OpenParts) (page holder : ℕ) → IsOpened s w txn e → page < w.pages
-    → IsLeast (is_in_way true s.locks.held txn page) holder → first_refusal w (New txn page) nothing ≡ Some (Busy holder)
-create_busy s w txn e page holder o low least = to_page s w txn e page o low ∙ is_busy_to_write s w txn page holder (from_wide w txn page) o.ready least
+-- none of the causes is met up to those of writing the page
+pub record IsAsked (s : TransactionsParts) (txn : ℕ) (e : OpenParts) (page : ℕ) : Type 0 where
+  pub found : IsOpenWith s txn e
+  pub frame : page < length s.frames
+  pub asked : FirstMet s (open_causes txn) None
+  pub written : FirstMet s (write_causes txn page) None
+  pub may : MayWrite s txn e page
 
-to_wide : (s : TransactionsParts) (w : World) (txn : ℕ) (e : OpenParts) (page : ℕ) → IsOpened s w txn e → page < w.pages → IsNobody (is_in_way true s.locks.held txn page)
-    → first_refusal w (New txn page) nothing ≡ first_met (from_wide w txn page)
-to_wide s w txn e page o low nobody = to_page s w txn e page o low ∙ may_write s w txn page (from_wide w txn page) o.ready nobody
+to_known : (s : TransactionsParts) (w : World) (txn : ℕ) (e : OpenParts) (page : ℕ) (b : Bool) → IsReady s w → IsAsked s txn e page
+    → nat_le MOST_KNOWN (length e.known) ≡ b → first_refusal w (New txn page) nothing ≡ first_met (when b KnowsTooMany ∷ page_full w txn page ∷ [])
+to_known s w txn e page b ready a full =
+    new_causes s w txn page None ready a.frame a.asked a.written ∙ full_by s w txn e b (page_full w txn page ∷ []) (open_in s w txn e ready a.found) full
 
-pub create_wide : (s : TransactionsParts) (w : World) (txn : ℕ) (e : OpenParts) (page : ℕ) → IsOpened s w txn e → page < w.pages → IsNobody (is_in_way true s.locks.held txn page)
-    → is_wide e.written page ≡ true → first_refusal w (New txn page) nothing ≡ Some TooWide
-create_wide s w txn e page o low nobody wide =
-    to_wide s w txn e page o low nobody ∙ wide_by s w txn e page true (knows_too_many w txn ∷ page_full w txn page ∷ []) o wide
-
-to_known : (s : TransactionsParts) (w : World) (txn : ℕ) (e : OpenParts) (page : ℕ) (b : Bool) → IsOpened s w txn e → page < w.pages → IsNobody (is_in_way true s.locks.held txn page)
-    → is_wide e.written page ≡ false → nat_le MOST_KNOWN (length e.known) ≡ b → first_refusal w (New txn page) nothing ≡ first_met (when b KnowsTooMany ∷ page_full w txn page ∷ [])
-to_known s w txn e page b o low nobody narrow full =
-    to_wide s w txn e page o low nobody
-    ∙ (wide_by s w txn e page false (knows_too_many w txn ∷ page_full w txn page ∷ []) o narrow ∙ full_by s w txn e b (page_full w txn page ∷ []) o full)
-
-pub create_knowing : (s : TransactionsParts) (w : World) (txn : ℕ) (e : OpenParts) (page : ℕ) → IsOpened s w txn e → page < w.pages → IsNobody (is_in_way true s.locks.held txn page)
-    → is_wide e.written page ≡ false → nat_le MOST_KNOWN (length e.known) ≡ true → first_refusal w (New txn page) nothing ≡ Some KnowsTooMany
-create_knowing s w txn e page o low nobody narrow full = to_known s w txn e page true o low nobody narrow full
+pub create_knowing : (s : TransactionsParts) (w : World) (txn : ℕ) (e : OpenParts) (page : ℕ) → IsReady s w → IsAsked s txn e page → nat_le MOST_KNOWN (length e.known) ≡ true
+    → first_refusal w (New txn page) nothing ≡ Some KnowsTooMany
+create_knowing s w txn e page ready a full = to_known s w txn e page true ready a full
 
 -- ---- the page as it is seen
 
@@ -78,23 +76,22 @@ slot_seen w t page slot image is lt =
 slots_seen : (w : World) (t : Transaction) (page : ℕ) (image : PageParts) → image ≡ image_in w (view w t) page → length image.slots ≡ slots_of w page
 slots_seen w t page image is = ap (λ (i : PageParts). length i.slots) is ∙ length-shown (slots_of w page) (fields_of w page) (view w t) w.freed page
 
-pub create_full : (s : TransactionsParts) (w : World) (txn : ℕ) (e : OpenParts) (page : ℕ) → IsOpened s w txn e → page < w.pages → IsNobody (is_in_way true s.locks.held txn page)
-    → is_wide e.written page ≡ false → nat_le MOST_KNOWN (length e.known) ≡ false → IsFull (frame_at s.frames page).current
-    → first_refusal w (New txn page) nothing ≡ Some (PageFull page)
-create_full s w txn e page o low nobody narrow spare full =
-    let image = seen_image s w txn e page o low nobody in
+pub create_full : (s : TransactionsParts) (w : World) (txn : ℕ) (e : OpenParts) (page : ℕ) → IsReady s w → IsAsked s txn e page → nat_le MOST_KNOWN (length e.known) ≡ false
+    → IsFull (frame_at s.frames page).current → first_refusal w (New txn page) nothing ≡ Some (PageFull page)
+create_full s w txn e page ready a spare full =
+    let o = open_in s w txn e ready a.found in
+    let image = seen_image s w txn e page o (page_below s w page ready a.frame) a.may.nobody in
     let none = none_free w txn o.of page o.ready.lawful o.found (λ slot lt.
     let count = slots_seen w o.of page (frame_at s.frames page).current image in
     let within : slot < length (frame_at s.frames page).current.slots = subst (λ n. slot < n) (sym count) lt in
     sym (ap has_room (slot_seen w o.of page slot (frame_at s.frames page).current image lt)) ∙ full slot within) in
-    to_known s w txn e page false o low nobody narrow spare ∙ ap (λ x. first_met (when (is_none x) (PageFull page) ∷ [])) none
+    to_known s w txn e page false ready a spare ∙ ap (λ x. first_met (when (is_none x) (PageFull page) ∷ [])) none
 
 -- ---- the new object
 
 -- the code's steps
 pub record HasMade (s new : TransactionsParts) (txn : ℕ) (e : OpenParts) (page : ℕ) (name : NameParts) : Type 0 where
-  pub nobody : IsNobody (is_in_way true s.locks.held txn page)
-  pub narrow : is_wide e.written page ≡ false
+  pub before : IsAsked s txn e page
   pub spare : nat_le MOST_KNOWN (length e.known) ≡ false
   pub locked : AddsExclusive s.locks.held new.locks.held txn page
   pub pages : new.locks.pages ≡ s.locks.pages
@@ -122,7 +119,7 @@ entry_makes e f t page name is h notes =
 made_at : (s new : TransactionsParts) (w : World) (txn : ℕ) (e : OpenParts) (page slot : ℕ) (o : IsOpened s w txn e) → page < w.pages → slot < slots_of w page
     → free_slot w txn page ≡ Some slot → IsFreePlace w o.of page slot → HasMade s new txn e page (name_at w.graph page slot) → IsMade w new txn page (name_at w.graph page slot)
 made_at s new w txn e page slot o low within found free run = record {
-  allowed = to_known s w txn e page false o low run.nobody run.narrow run.spare ∙ ap (λ x. first_met (when (is_none x) (PageFull page) ∷ [])) found;
+  allowed = to_known s w txn e page false o.ready run.before run.spare ∙ ap (λ x. first_met (when (is_none x) (PageFull page) ∷ [])) found;
   named = ap (option_map (name_at w.graph page)) found;
   stands = record {
     fields = o.ready.stands.fields;
@@ -131,8 +128,8 @@ made_at s new w txn e page slot o low within found free run = record {
     locks = locks_exclude w s.locks new.locks txn page (makes name) o.of o.ready.stands.locks o.found (λ t. refl) refl refl run.pages run.locked;
     frames = subst (AreFramesOf (with_transaction w txn (makes name))) (sym run.frames)
         (frames_change w s.frames txn page (written (frame_at s.frames page) (with_slot (frame_at s.frames page).current slot taken)) (makes name) o.of
-        o.ready.stands.frames low o.found (λ t. refl) refl (λ u ne. nobody_wrote s w true txn page u o.ready run.nobody ne) refl refl
-        (ap (λ i. with_slot i slot taken) (seen_image s w txn e page o low run.nobody)
+        o.ready.stands.frames low o.found (λ t. refl) refl (λ u ne. nobody_wrote s w true txn page u o.ready run.before.may.nobody ne) refl refl
+        (ap (λ i. with_slot i slot taken) (seen_image s w txn e page o low run.before.may.nobody)
         ∙ ap (λ slots. record { number = page; slots = slots }) (new_on_page w txn o.of page slot fresh_slot o.ready.lawful o.found free within))
         (λ p ne. ap (λ slots. record { number = p; slots = slots }) (new_on_another_page w o.of page slot p ne)));
   };
@@ -150,10 +147,12 @@ next_is w t page image name is next within generation =
     ∙ ap (λ g. name_of page name.slot g)
     (next.generation ∙ (ap (λ (x : SlotParts). x.generation + 1) (slot_seen w t page name.slot image is within) ∙ (let g = generation in omega arith)))
 
-pub creates : (s new : TransactionsParts) (w : World) (txn : ℕ) (e : OpenParts) (page : ℕ) (name : NameParts) → IsOpened s w txn e → page < w.pages → HasMade s new txn e page name → IsMade w new txn page name
-creates s new w txn e page name o low run =
+pub creates : (s new : TransactionsParts) (w : World) (txn : ℕ) (e : OpenParts) (page : ℕ) (name : NameParts) → IsReady s w → HasMade s new txn e page name → IsMade w new txn page name
+creates s new w txn e page name ready run =
+    let o = open_in s w txn e ready run.before.found in
+    let low = page_below s w page ready run.before.frame in
     let now : PageParts = (frame_at s.frames page).current in
-    let image : now ≡ image_in w (view w o.of) page = seen_image s w txn e page o low run.nobody in
+    let image : now ≡ image_in w (view w o.of) page = seen_image s w txn e page o low run.before.may.nobody in
     let count : length now.slots ≡ slots_of w page = slots_seen w o.of page now image in
     let within : name.slot < slots_of w page = subst (λ n. name.slot < n) count run.next.slot.within in
     let room : has_room (shown_slot (fields_of w page) (view w o.of) w.freed page name.slot) ≡ true = sym (ap has_room (slot_seen w o.of page name.slot now image within)) ∙ run.next.slot.room in

@@ -14,6 +14,7 @@ use Rattle.store_model.proofs.Orders.{IsPlacedName, lawful_one, placed_one}
 use Rattle.page_locks.specs.Holding.{Held, is_admitted, numbers}
 use Rattle.transactions.specs.Tables.{OpenParts, entry_of}
 use Rattle.transactions.specs.Standing.{TransactionsParts, numbers_of, IsEntry, AreAlike, IsReady}
+use Rattle.transactions.specs.Checks.{IsOpenWith, IsKnownTo}
 use Rattle.transactions.proofs.Numbers.{found_in_list, transaction_found}
 use Rattle.transactions.proofs.Seen.{IsThere, known_object, own_or_there}
 use Rattle.transactions.proofs.Entries.{alike_some, alike_none}
@@ -36,6 +37,10 @@ pub not_opened : (s view : TransactionsParts) (w : World) (txn : ℕ) → s ≡ 
 not_opened s view w txn same is ready =
     let r = subst (λ v. IsReady v w) same ready in
     alike_none (find_transaction w txn) (subst (λ o. AreAlike o (find_transaction w txn)) is (r.stands.table.each txn))
+
+-- the entry that was found, in each world for which all stands
+pub open_in : (s : TransactionsParts) (w : World) (txn : ℕ) (e : OpenParts) → IsReady s w → IsOpenWith s txn e → IsOpened s w txn e
+open_in s w txn e ready found = opened s s w txn e refl found.entry ready
 
 -- ---- what is known of it
 
@@ -75,12 +80,27 @@ any-map : (p : ℕ → Bool) (f : Held → ℕ) (xs : List Held) → list_any p 
 any-map p f [] = refl
 any-map p f (x ∷ xs) = ap (λ b. p (f x) || b) (any-map p f xs)
 
-pub open_admitted : (s : TransactionsParts) (w : World) (txn : ℕ) (e : OpenParts) → IsOpened s w txn e → is_admitted s.locks.held txn ≡ true
+open_admitted : (s : TransactionsParts) (w : World) (txn : ℕ) (e : OpenParts) → IsOpened s w txn e → is_admitted s.locks.held txn ≡ true
 open_admitted s w txn e o =
     let found = found_in_list (λ (t : Transaction). t.number == txn) w.transactions o.of o.found in
     let member : In o.of.number (numbers_of w) = in_reverse (map (λ (t : Transaction). t.number) w.transactions) o.of.number (map_in (λ (t : Transaction). t.number) w.transactions o.of found.0) in
     sym (any-map (λ n. n == txn) (λ h. h.txn) s.locks.held)
     ∙ in_any (λ n. n == txn) (numbers s.locks.held) o.of.number (subst (λ ns. In o.of.number ns) (sym o.ready.stands.locks.admitted) member) found.1
+
+pub open_with : (s : TransactionsParts) (w : World) (txn : ℕ) (e : OpenParts) → IsReady s w → entry_of s.table txn ≡ Some e → IsOpenWith s txn e
+open_with s w txn e ready is = record { entry = is; admitted = open_admitted s w txn e (opened s s w txn e refl is ready) }
+
+-- the page of a name that it knows is one of the store
+pub known_to : (s : TransactionsParts) (w : World) (txn : ℕ) (e : OpenParts) (name : NameParts) → IsReady s w → IsOpenWith s txn e → has_name e.known name ≡ true → IsKnownTo s txn name e
+known_to s w txn e name ready found known =
+    let o = open_in s w txn e ready found in
+    let low = (known_placed s w txn e name o known).0 in
+    record {
+      found = found;
+      known = known;
+      frame = let n = ready.stands.frames.count in omega arith;
+      lock = let n = ready.stands.locks.pages in omega arith;
+    }
 
 -- ---- the pages noted as written are pages of the store
 
@@ -90,8 +110,8 @@ wrote_within s w txn e page o h =
     let n = o.ready.stands.frames.count in
     omega arith
 
--- a page below the count of frames is one of the store
-pub page_below : (s : TransactionsParts) (w : World) (page count : ℕ) → IsReady s w → page < count → count ≡ length s.frames → page < w.pages
-page_below s w page count ready low is =
+-- a page that has a frame is one of the store
+pub page_below : (s : TransactionsParts) (w : World) (page : ℕ) → IsReady s w → page < length s.frames → page < w.pages
+page_below s w page ready low =
     let n = ready.stands.frames.count in
     omega arith

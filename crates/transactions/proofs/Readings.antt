@@ -1,37 +1,39 @@
 -- What a get or a number reads, and does.
-use Rattle.std.proofs.Common.{◌≡◌, ℕ, ◌<◌, Bool, true, false, [], ◌∷◌, length, Option, Some, None, refl, sym, subst, ap, ◌∙◌, arith, get_or}
+use Rattle.std.proofs.Common.{◌≡◌, ℕ, ◌<◌, Bool, true, false, List, [], ◌∷◌, ◌++◌, length, Option, Some, None, refl, sym, subst, ap, ◌∙◌, arith, get_or}
 use Rattle.std.specs.List.{slice_get}
 use Rattle.std.specs.Option.{option_map, option_and_then, unwrap_or}
 use Rattle.std.proofs.lemmas.Option.{slice_get-get_or}
 use Rattle.object_graph.specs.NameParts.{NameParts}
 use Rattle.object_graph.specs.ObjectParts.{ObjectParts}
 use Rattle.object_graph.specs.declared.calls.Call.TheVariants.{Get, Number}
-use Rattle.object_graph.specs.declared.calls.Refusal.TheVariants.{Busy, KnowsTooMany}
+use Rattle.object_graph.specs.declared.calls.Refusal.{Refusal}
+use Rattle.object_graph.specs.declared.calls.Refusal.TheVariants.{KnowsTooMany}
 use Rattle.object_graph.specs.Graphs.{has_name, object_named}
 use Rattle.object_graph.specs.declared.names.TheConstants.{OBJECT_FIELDS}
 use Rattle.store_model.specs.Worlds.{World, Transaction, nothing, view, transaction}
-use Rattle.store_model.specs.Causes.{first_met, first_refusal, when, stranger, bad_field, busy_to_read, knows_too_many_for, field_seen, number_seen}
+use Rattle.store_model.specs.Causes.{first_met, first_refusal, when, busy_to_read, knows_too_many_for, field_seen, number_seen}
 use Rattle.store_model.specs.Steps.{with_target, with_transaction, reads_page}
 use Rattle.page_image.specs.Slots.{fresh_slot}
 use Rattle.page_image.specs.Pages.{object_of, object_at}
 use Rattle.page_buffer.specs.Frames.{frame_at}
-use Rattle.page_locks.specs.Holding.{is_in_way, IsNobody, IsLeast, AddsShared}
+use Rattle.page_locks.specs.Holding.{is_in_way, IsNobody, AddsShared}
 use Rattle.transactions.specs.Tables.{OpenParts, is_full_for, HaveSamePages, ChangesEntry, NotesTarget}
-use Rattle.transactions.specs.Standing.{TransactionsParts, IsEntry, IsTable, AreFramesOf, Stands}
+use Rattle.transactions.specs.Standing.{TransactionsParts, IsEntry, IsTable, AreFramesOf, IsReady, Stands}
+use Rattle.transactions.specs.Checks.{FirstMet, name_causes, field_causes, IsKnownTo}
 use Rattle.transactions.proofs.Numbers.{transaction_found}
 use Rattle.transactions.proofs.Seen.{object_found, known_unfreed, there_fields}
 use Rattle.transactions.proofs.Images.{slot_of_known}
 use Rattle.transactions.proofs.Entries.{table_changes, table_stays, same_names, same_with_target}
 use Rattle.transactions.proofs.LocksHeld.{locks_share}
 use Rattle.transactions.proofs.FramesSeen.{frames_kept}
-use Rattle.transactions.proofs.Opened.{IsOpened, open_member, known_there, known_placed}
-use Rattle.transactions.proofs.Refusals.{is_open, is_known, is_field, may_read, is_busy_to_read, full_for_by}
+use Rattle.transactions.proofs.Opened.{IsOpened, open_in, open_member, known_there, known_placed}
+use Rattle.transactions.proofs.Refusals.{causes_before, may_read, full_for_by}
 use Rattle.transactions.proofs.Writes.{known_image}
 
 -- ---- what is read
 
 -- the object in the current image is the one that the transaction sees
-pub read_object : (s : TransactionsParts) (w : World) (txn : ℕ) (e : OpenParts) (name : NameParts) (page : ℕ) (o : IsOpened s w txn e) (known : has_name e.known name ≡ true)
+read_object : (s : TransactionsParts) (w : World) (txn : ℕ) (e : OpenParts) (name : NameParts) (page : ℕ) (o : IsOpened s w txn e) (known : has_name e.known name ≡ true)
     → page ≡ name.page → IsNobody (is_in_way false s.locks.held txn page) → object_at (frame_at s.frames name.page).current name.slot ≡ Some (known_there s w txn e name o known).object
 read_object s w txn e name page o known is nobody =
     let there = known_there s w txn e name o known in
@@ -39,78 +41,72 @@ read_object s w txn e name page o known is nobody =
     ∙ (ap (object_of name.page name.slot) (slot_of_known w o.of name fresh_slot there (known_placed s w txn e name o known).1)
     ∙ ap (λ (n : NameParts). Some (record { name = record { page = n.page; slot = n.slot; generation = there.object.name.generation }; number = there.object.number; refs = there.object.refs })) (sym there.named))
 
-pub seen_object : (s : TransactionsParts) (w : World) (txn : ℕ) (e : OpenParts) (name : NameParts) (o : IsOpened s w txn e) (known : has_name e.known name ≡ true)
+seen_object : (s : TransactionsParts) (w : World) (txn : ℕ) (e : OpenParts) (name : NameParts) (o : IsOpened s w txn e) (known : has_name e.known name ≡ true)
     → object_named (view w (transaction w txn)) name ≡ Some (known_there s w txn e name o known).object
 seen_object s w txn e name o known =
     ap (λ t. object_named (view w t) name) (transaction_found w txn o.of o.found)
     ∙ object_found w o.of name (known_there s w txn e name o known) (known_unfreed w o.of name o.ready.lawful (open_member s w txn e o) (sym (o.entry.known.each name) ∙ known))
 
 -- it is there
-pub is_read : (s : TransactionsParts) (w : World) (txn : ℕ) (e : OpenParts) (name : NameParts) (page : ℕ) → IsOpened s w txn e → has_name e.known name ≡ true
+pub is_read : (s : TransactionsParts) (w : World) (txn : ℕ) (e : OpenParts) (name : NameParts) (page : ℕ) → IsReady s w → IsKnownTo s txn name e
     → page ≡ name.page → IsNobody (is_in_way false s.locks.held txn page) → object_at (frame_at s.frames name.page).current name.slot ≡ None → ⊥
-is_read s w txn e name page o known is nobody none =
-    let some = read_object s w txn e name page o known is nobody in cc
+is_read s w txn e name page ready known is nobody none =
+    let o = open_in s w txn e ready known.found in
+    let some = read_object s w txn e name page o known.known is nobody in cc
 
 same_object : (a b : ObjectParts) (x : Option ObjectParts) → x ≡ Some a → x ≡ Some b → a ≡ b
 same_object a b x p q = cc
 
-pub read_number : (s : TransactionsParts) (w : World) (txn : ℕ) (e : OpenParts) (name : NameParts) (page : ℕ) (object : ObjectParts) → IsOpened s w txn e → has_name e.known name ≡ true
+pub read_number : (s : TransactionsParts) (w : World) (txn : ℕ) (e : OpenParts) (name : NameParts) (page : ℕ) (object : ObjectParts) → IsReady s w → IsKnownTo s txn name e
     → page ≡ name.page → IsNobody (is_in_way false s.locks.held txn page) → object_at (frame_at s.frames name.page).current name.slot ≡ Some object
     → object.number ≡ number_seen w txn name
-read_number s w txn e name page object o known is nobody found =
-    let there = known_there s w txn e name o known in
-    ap (λ (x : ObjectParts). x.number) (same_object object there.object (object_at (frame_at s.frames name.page).current name.slot) found (read_object s w txn e name page o known is nobody))
-    ∙ ap (λ x. unwrap_or (option_map (λ (x : ObjectParts). x.number) x) 0) (sym (seen_object s w txn e name o known))
+read_number s w txn e name page object ready known is nobody found =
+    let o = open_in s w txn e ready known.found in
+    let there = known_there s w txn e name o known.known in
+    ap (λ (x : ObjectParts). x.number) (same_object object there.object (object_at (frame_at s.frames name.page).current name.slot) found (read_object s w txn e name page o known.known is nobody))
+    ∙ ap (λ x. unwrap_or (option_map (λ (x : ObjectParts). x.number) x) 0) (sym (seen_object s w txn e name o known.known))
 
-pub read_field : (s : TransactionsParts) (w : World) (txn : ℕ) (e : OpenParts) (name : NameParts) (page field : ℕ) (object : ObjectParts) (d : Option NameParts) → IsOpened s w txn e → has_name e.known name ≡ true
+pub read_field : (s : TransactionsParts) (w : World) (txn : ℕ) (e : OpenParts) (name : NameParts) (page field : ℕ) (object : ObjectParts) (d : Option NameParts) → IsReady s w → IsKnownTo s txn name e
     → page ≡ name.page → IsNobody (is_in_way false s.locks.held txn page) → object_at (frame_at s.frames name.page).current name.slot ≡ Some object → field < OBJECT_FIELDS
     → get_or object.refs field d ≡ field_seen w txn name field
-read_field s w txn e name page field object d o known is nobody found low =
-    let there = known_there s w txn e name o known in
-    let same = same_object object there.object (object_at (frame_at s.frames name.page).current name.slot) found (read_object s w txn e name page o known is nobody) in
+read_field s w txn e name page field object d ready known is nobody found low =
+    let o = open_in s w txn e ready known.found in
+    let there = known_there s w txn e name o known.known in
+    let same = same_object object there.object (object_at (frame_at s.frames name.page).current name.slot) found (read_object s w txn e name page o known.known is nobody) in
     let fields : length there.object.refs ≡ OBJECT_FIELDS = there_fields w o.of name there o.ready.stands.fields in
     let within : field < length there.object.refs = omega arith in
     ap (λ (x : ObjectParts). get_or x.refs field d) same
     ∙ (sym (ap (λ x. unwrap_or x None) (slice_get-get_or there.object.refs field d within))
-    ∙ ap (option_and_then (λ (x : ObjectParts). unwrap_or (slice_get x.refs field) None)) (sym (seen_object s w txn e name o known)))
+    ∙ ap (option_and_then (λ (x : ObjectParts). unwrap_or (slice_get x.refs field) None)) (sym (seen_object s w txn e name o known.known)))
 
 -- ---- the causes
 
-pub number_busy : (s : TransactionsParts) (w : World) (txn : ℕ) (e : OpenParts) (name : NameParts) (page holder : ℕ) → IsOpened s w txn e → has_name e.known name ≡ true → page ≡ name.page
-    → IsLeast (is_in_way false s.locks.held txn page) holder → first_refusal w (Number txn name) nothing ≡ Some (Busy holder)
-number_busy s w txn e name page holder o known is least =
-    is_open s w txn e (stranger w txn name ∷ busy_to_read w txn name.page ∷ []) o
-    ∙ (is_known s w txn e name (busy_to_read w txn name.page ∷ []) o known
-    ∙ is_busy_to_read s w txn name.page holder [] o.ready (subst (λ p. IsLeast (is_in_way false s.locks.held txn p) holder) is least))
+-- past the name, and the field of a get
+pub number_causes : (s : TransactionsParts) (w : World) (txn : ℕ) (name : NameParts) (page : ℕ) (why : Option Refusal) → IsReady s w → page ≡ name.page → FirstMet s (name_causes txn name) None
+    → first_met (busy_to_read w txn page ∷ []) ≡ why → first_refusal w (Number txn name) nothing ≡ why
+number_causes s w txn name page why ready is named read =
+    causes_before (name_causes txn name w) (busy_to_read w txn name.page ∷ []) None (named w ready)
+    ∙ subst (λ p. first_met (busy_to_read w txn p ∷ []) ≡ why) is read
 
-pub number_free : (s : TransactionsParts) (w : World) (txn : ℕ) (e : OpenParts) (name : NameParts) (page : ℕ) → IsOpened s w txn e → has_name e.known name ≡ true → page ≡ name.page
-    → IsNobody (is_in_way false s.locks.held txn page) → first_refusal w (Number txn name) nothing ≡ None
-number_free s w txn e name page o known is nobody =
-    is_open s w txn e (stranger w txn name ∷ busy_to_read w txn name.page ∷ []) o
-    ∙ (is_known s w txn e name (busy_to_read w txn name.page ∷ []) o known
-    ∙ may_read s w txn name.page [] o.ready (subst (λ p. IsNobody (is_in_way false s.locks.held txn p)) is nobody))
+-- what is read comes last
+abbrev pub seen_causes : ℕ → NameParts → ℕ → World → List (Option Refusal)
+seen_causes txn name field w = knows_too_many_for w txn (field_seen w txn name field) ∷ []
 
-get_known : (s : TransactionsParts) (w : World) (txn : ℕ) (e : OpenParts) (name : NameParts) (field : ℕ) → IsOpened s w txn e → has_name e.known name ≡ true → field < OBJECT_FIELDS
-    → first_refusal w (Get txn name field) nothing ≡ first_met (busy_to_read w txn name.page ∷ knows_too_many_for w txn (field_seen w txn name field) ∷ [])
-get_known s w txn e name field o known low =
-    let last = busy_to_read w txn name.page ∷ knows_too_many_for w txn (field_seen w txn name field) ∷ [] in
-    is_open s w txn e (stranger w txn name ∷ bad_field w name field ∷ last) o
-    ∙ (is_known s w txn e name (bad_field w name field ∷ last) o known ∙ is_field w name field last low)
-
-pub get_busy : (s : TransactionsParts) (w : World) (txn : ℕ) (e : OpenParts) (name : NameParts) (field page holder : ℕ) → IsOpened s w txn e → has_name e.known name ≡ true → field < OBJECT_FIELDS → page ≡ name.page
-    → IsLeast (is_in_way false s.locks.held txn page) holder → first_refusal w (Get txn name field) nothing ≡ Some (Busy holder)
-get_busy s w txn e name field page holder o known low is least =
-    get_known s w txn e name field o known low
-    ∙ is_busy_to_read s w txn name.page holder (knows_too_many_for w txn (field_seen w txn name field) ∷ []) o.ready (subst (λ p. IsLeast (is_in_way false s.locks.held txn p) holder) is least)
+pub get_causes : (s : TransactionsParts) (w : World) (txn : ℕ) (name : NameParts) (field page : ℕ) (why : Option Refusal) → IsReady s w → page ≡ name.page
+    → FirstMet s (name_causes txn name) None → FirstMet s (field_causes name field) None → first_met (busy_to_read w txn page ∷ seen_causes txn name field w) ≡ why
+    → first_refusal w (Get txn name field) nothing ≡ why
+get_causes s w txn name field page why ready is named low read =
+    causes_before (name_causes txn name w) (field_causes name field w ++ busy_to_read w txn name.page ∷ seen_causes txn name field w) None (named w ready)
+    ∙ (causes_before (field_causes name field w) (busy_to_read w txn name.page ∷ seen_causes txn name field w) None (low w ready)
+    ∙ subst (λ p. first_met (busy_to_read w txn p ∷ seen_causes txn name field w) ≡ why) is read)
 
 -- where the target fits, or doesn't
-pub get_full : (s : TransactionsParts) (w : World) (txn : ℕ) (e : OpenParts) (name : NameParts) (field page : ℕ) (target : Option NameParts) (b : Bool) → IsOpened s w txn e → has_name e.known name ≡ true
-    → field < OBJECT_FIELDS → page ≡ name.page → IsNobody (is_in_way false s.locks.held txn page) → target ≡ field_seen w txn name field → is_full_for e.known target ≡ b
-    → first_refusal w (Get txn name field) nothing ≡ when b KnowsTooMany
-get_full s w txn e name field page target b o known low is nobody seen full =
-    get_known s w txn e name field o known low
-    ∙ (may_read s w txn name.page (knows_too_many_for w txn (field_seen w txn name field) ∷ []) o.ready (subst (λ p. IsNobody (is_in_way false s.locks.held txn p)) is nobody)
-    ∙ (full_for_by s w txn e (field_seen w txn name field) b [] o (subst (λ x. is_full_for e.known x ≡ b) seen full) ∙ alone b))
+pub is_full_to_get : (s : TransactionsParts) (w : World) (txn : ℕ) (e : OpenParts) (name : NameParts) (field page : ℕ) (target : Option NameParts) (b : Bool) → IsReady s w → IsKnownTo s txn name e
+    → IsNobody (is_in_way false s.locks.held txn page) → target ≡ field_seen w txn name field → is_full_for e.known target ≡ b
+    → first_met (busy_to_read w txn page ∷ seen_causes txn name field w) ≡ when b KnowsTooMany
+is_full_to_get s w txn e name field page target b ready known nobody seen full =
+    may_read s w txn page (seen_causes txn name field w) ready nobody
+    ∙ (full_for_by s w txn e (field_seen w txn name field) b [] (open_in s w txn e ready known.found) (subst (λ x. is_full_for e.known x ≡ b) seen full) ∙ alone b)
   where
     alone : (b : Bool) → first_met (when b KnowsTooMany ∷ []) ≡ when b KnowsTooMany
     alone true = refl
@@ -134,9 +130,9 @@ number_here s new w txn e page o same run = record {
 }
 
 -- all stands for the world after a number was read
-pub number_stands : (s new : TransactionsParts) (w : World) (txn : ℕ) (e : OpenParts) (name : NameParts) (page : ℕ) → IsOpened s w txn e → page ≡ name.page → new.table ≡ s.table → HasRead s new txn page
+pub number_stands : (s new : TransactionsParts) (w : World) (txn : ℕ) (e : OpenParts) (name : NameParts) (page : ℕ) → IsReady s w → IsKnownTo s txn name e → page ≡ name.page → new.table ≡ s.table → HasRead s new txn page
     → Stands new (with_transaction w txn (reads_page name.page))
-number_stands s new w txn e name page o is same run = subst (λ p. Stands new (with_transaction w txn (reads_page p))) is (number_here s new w txn e page o same run)
+number_stands s new w txn e name page ready known is same run = subst (λ p. Stands new (with_transaction w txn (reads_page p))) is (number_here s new w txn e page (open_in s w txn e ready known.found) same run)
 
 entry_gets : (e f : OpenParts) (t : Transaction) (target : Option NameParts) (page : ℕ) → IsEntry e t → NotesTarget target e f
     → IsEntry f (reads_page page (record t { known = with_target target t.known }))
@@ -158,9 +154,9 @@ get_here s new w txn e page target o notes run = record {
 }
 
 -- all stands for the world after a reference was got
-pub get_stands : (s new : TransactionsParts) (w : World) (txn : ℕ) (e : OpenParts) (name : NameParts) (field page : ℕ) (target : Option NameParts) → IsOpened s w txn e → page ≡ name.page
+pub get_stands : (s new : TransactionsParts) (w : World) (txn : ℕ) (e : OpenParts) (name : NameParts) (field page : ℕ) (target : Option NameParts) → IsReady s w → IsKnownTo s txn name e → page ≡ name.page
     → target ≡ field_seen w txn name field → ChangesEntry (NotesTarget target) txn s.table new.table → HasRead s new txn page
     → Stands new (with_transaction w txn (got name.page (field_seen w txn name field)))
-get_stands s new w txn e name field page target o is seen notes run =
+get_stands s new w txn e name field page target ready known is seen notes run =
     subst (λ p. Stands new (with_transaction w txn (got p (field_seen w txn name field)))) is
-    (subst (λ x. Stands new (with_transaction w txn (got page x))) seen (get_here s new w txn e page target o notes run))
+    (subst (λ x. Stands new (with_transaction w txn (got page x))) seen (get_here s new w txn e page target (open_in s w txn e ready known.found) notes run))

@@ -1,7 +1,8 @@
 -- What each call leaves is ready for the next.
-use Rattle.std.proofs.Common.{◌≡◌, ◌≢◌, ℕ, Bool, true, false, Option, Some, None, List, [], ◌∷◌, IsTrue, refl, sym, ap, ◌∙◌}
+use Rattle.std.proofs.Common.{◌≡◌, ◌≢◌, ℕ, Bool, true, false, Option, Some, None, List, [], ◌∷◌, Result, Err, IsErrAnd, IsTrue, refl, sym, subst, ap, ◌∙◌}
 use Rattle.std.specs.Option.{is_some, is_none, option_map, unwrap_or, MatchOption}
 use Rattle.std.specs.List.{AllByRecursion}
+use Rattle.std.proofs.lemmas.Result.{err_from_is_err_and}
 use Rattle.object_graph.specs.NameParts.{NameParts}
 use Rattle.object_graph.specs.declared.calls.Call.{Call}
 use Rattle.object_graph.specs.declared.calls.Call.TheVariants.{Begin, Get, Number, Set, Put, New, Commit, Abort, OpenCut, Copy, HandIn, Close, Mark, Sweep, EndCut, DropCut, Reopen}
@@ -19,6 +20,7 @@ use Rattle.transactions.specs.Tables.{entry_of}
 use Rattle.transactions.specs.Standing.{TransactionsParts, IsReady, IsReadyForSome, Stands}
 use Rattle.transactions.specs.Calls.{Answers, StepsWell}
 use Rattle.transactions.proofs.Begins.{opened_there}
+use Rattle.transactions.proofs.Refusals.{refused}
 
 -- ---- no cause is a disk fault
 
@@ -95,6 +97,20 @@ no_refusal w call h may = by (first_refusal w call nothing) refl may
     by : (o : Option Refusal) → first_refusal w call nothing ≡ o → MatchOption o (is_free call DiskFault ≡ true) (λ first. DiskFault ≡ first) → ⊥
     by None e free = let z : may_fail call ≡ true = free in let y : true ≡ false = sym z ∙ h in cc
     by (Some why) e same = none_first (causes w call nothing) (no_fault w call h) (e ∙ ap (λ (r : Refusal). Some r) (sym same))
+
+-- so one that is refused leaves them standing for the world as it was
+pub stands_refused : (s : TransactionsParts) (w : World) (call : Call) (why : Refusal) → may_fail call ≡ false → Stands s w → first_refusal w call nothing ≡ Some why
+    → Answers s w call (Refused why)
+stands_refused s w call DiskFault h stands e = absurd (no_refusal w call h (refused w call DiskFault e))
+stands_refused s w call why h stands e = record { allowed = refused w call why e; stands = stands }
+
+-- and so where `?` hands on the refusal
+pub hands_on : {T : Type 0} (reply : Result T Refusal → Reply) (result : Result T Refusal) (s : TransactionsParts) (w : World) (call : Call) (why : Refusal) → reply (Err why) ≡ Refused why
+    → IsErrAnd result (λ (y : Refusal). y ≡ why) → may_fail call ≡ false → Stands s w → first_refusal w call nothing ≡ Some why → Answers s w call (reply result)
+hands_on reply result s w call why is handed h stands e =
+    let p = err_from_is_err_and result handed in
+    let same : reply result ≡ Refused why = ap reply (p.1 ∙ ap (λ (y : Refusal). Err y) p.2) ∙ is in
+    subst (λ (x : Reply). Answers s w call x) (sym same) (stands_refused s w call why h stands e)
 
 -- ---- what isn't broken stays so
 

@@ -1,6 +1,6 @@
 -- The causes of refusals, as the table and the locks show them.
-use Rattle.std.proofs.Common.{◌≡◌, ◌≢◌, ℕ, ◌<◌, ◌≤◌, Bool, true, false, not, ◌&&◌, ◌||◌, ◌==◌, List, ◌∷◌, length, Option, Some, None, refl, sym, subst, ap, ◌∙◌, nat_le}
-use Rattle.std.specs.Option.{is_none, option_map, unwrap_or, MatchOption}
+use Rattle.std.proofs.Common.{◌≡◌, ◌≢◌, ℕ, ◌<◌, ◌≤◌, Bool, true, false, not, ◌&&◌, ◌||◌, ◌==◌, List, [], ◌∷◌, ◌++◌, length, Option, Some, None, refl, sym, subst, ap, ◌∙◌, nat_le}
+use Rattle.std.specs.Option.{is_none, option_map, option_or, unwrap_or, MatchOption}
 use Rattle.std.proofs.lemmas.Bool.{eqb-true, eq-eqb, ne_eqb, and_parts, or_parts, and_from, lt-ltb, le-ltb}
 use Rattle.object_graph.specs.NameParts.{NameParts}
 use Rattle.object_graph.specs.declared.calls.Call.{Call}
@@ -17,10 +17,17 @@ use Rattle.page_locks.specs.Holding.{excludes, is_in_way, IsNobody, IsLeast}
 use Rattle.transactions.specs.Tables.{OpenParts, is_wide, knows_target, is_full_for}
 use Rattle.transactions.specs.Standing.{TransactionsParts, wrote, IsReady}
 use Rattle.transactions.proofs.Numbers.{transaction_found, found_in_list, found_at, holder_none, holder_some}
-use Rattle.transactions.proofs.Opened.{IsOpened}
+use Rattle.transactions.specs.Checks.{IsOpenWith, write_causes}
+use Rattle.transactions.proofs.Opened.{IsOpened, open_in}
 
 pub refused : (w : World) (call : Call) (why : Refusal) → first_refusal w call nothing ≡ Some why → AllowsReply w call nothing (Refused why)
 refused w call why e = subst (λ o. MatchOption o (is_free call why ≡ true) (λ first. why ≡ first)) (sym e) refl
+
+-- causes come before the rest: where one of them is met, and where none is
+pub causes_before : (causes rest : List (Option Refusal)) (why : Option Refusal) → first_met causes ≡ why → first_met (causes ++ rest) ≡ option_or why (first_met rest)
+causes_before [] rest why e = ap (λ o. option_or o (first_met rest)) e
+causes_before (None ∷ causes) rest why e = causes_before causes rest why e
+causes_before (Some first ∷ causes) rest why e = ap (λ o. option_or o (first_met rest)) e
 
 -- ---- each cause: met, or not
 
@@ -171,3 +178,14 @@ may_read s w txn page rest r nobody = ap (λ o. first_met (option_map (λ h. Bus
 pub is_busy_to_read : (s : TransactionsParts) (w : World) (txn page m : ℕ) (rest : List (Option Refusal)) → IsReady s w → IsLeast (is_in_way false s.locks.held txn page) m
     → first_met (busy_to_read w txn page ∷ rest) ≡ Some (Busy m)
 is_busy_to_read s w txn page m rest r least = ap (λ o. first_met (option_map (λ h. Busy h) o ∷ rest)) (holder_some_by s w false txn page m r least)
+
+-- with nobody in the way, a page is written unless too many are
+pub is_wide_to_write : (s : TransactionsParts) (w : World) (txn : ℕ) (e : OpenParts) (page : ℕ) (b : Bool) → IsReady s w → IsOpenWith s txn e → IsNobody (is_in_way true s.locks.held txn page)
+    → is_wide e.written page ≡ b → first_met (write_causes txn page w) ≡ when b TooWide
+is_wide_to_write s w txn e page b r found nobody wide =
+    may_write s w txn page (too_wide w txn page ∷ []) r nobody
+    ∙ (wide_by s w txn e page b [] (open_in s w txn e r found) wide ∙ alone b)
+  where
+    alone : (b : Bool) → first_met (when b TooWide ∷ []) ≡ when b TooWide
+    alone true = refl
+    alone false = refl

@@ -1,11 +1,10 @@
 -- What a put or a set does.
-use Rattle.std.proofs.Common.{◌≡◌, ℕ, ◌<◌, Bool, true, false, List, [], ◌∷◌, length, Option, Some, refl, sym, subst, ap, ◌∙◌, arith}
+use Rattle.std.proofs.Common.{◌≡◌, ℕ, ◌<◌, Bool, true, false, List, ◌∷◌, ◌++◌, length, Option, None, refl, sym, subst, ap, ◌∙◌, arith}
 use Rattle.object_graph.specs.declared.calls.Call.TheVariants.{Put, Set}
 use Rattle.object_graph.specs.declared.calls.Refusal.{Refusal}
-use Rattle.object_graph.specs.declared.calls.Refusal.TheVariants.{Busy, TooWide}
 use Rattle.object_graph.specs.declared.names.TheConstants.{OBJECT_FIELDS}
 use Rattle.object_graph.specs.declared.sizes.TheConstants.{SLOTS_PER_PAGE}
-use Rattle.store_model.specs.Causes.{first_met, first_refusal, when, stranger, strange_target, bad_field, busy_to_write, too_wide}
+use Rattle.store_model.specs.Causes.{first_met, first_refusal, strange_target}
 use Rattle.object_graph.specs.NameParts.{NameParts}
 use Rattle.object_graph.specs.SlotParts.{SlotParts}
 use Rattle.object_graph.specs.Graphs.{has_name}
@@ -15,9 +14,11 @@ use Rattle.store_model.specs.Steps.{with_page, with_transaction, writes}
 use Rattle.page_image.specs.Slots.{fresh_slot, with_number, with_ref}
 use Rattle.page_image.specs.Pages.{PageParts, slot_at, with_slot}
 use Rattle.page_buffer.specs.Frames.{frame_at, with_frame, written}
-use Rattle.page_locks.specs.Holding.{is_in_way, IsNobody, IsLeast, AddsExclusive}
-use Rattle.transactions.specs.Tables.{OpenParts, is_wide, knows_target, HaveSameNames, ChangesEntry, NotesPage}
-use Rattle.transactions.specs.Standing.{TransactionsParts, image_in, IsEntry, AreFramesOf, Stands}
+use Rattle.page_buffer.specs.declared.frame.Frame.{Frame}
+use Rattle.page_locks.specs.Holding.{is_in_way, IsNobody, AddsExclusive}
+use Rattle.transactions.specs.Tables.{OpenParts, knows_target, HaveSameNames, ChangesEntry, NotesPage}
+use Rattle.transactions.specs.Standing.{TransactionsParts, image_in, IsEntry, AreFramesOf, IsReady, Stands}
+use Rattle.transactions.specs.Checks.{FirstMet, name_causes, field_causes, write_causes, IsKnownTo, MayWrite, TakesPage}
 use Rattle.transactions.proofs.Viewed.{written_name}
 use Rattle.transactions.proofs.Seen.{there_fields}
 use Rattle.transactions.proofs.Shown.{length-shown}
@@ -25,22 +26,10 @@ use Rattle.transactions.proofs.Images.{slot_of_known, number_on_page, ref_on_pag
 use Rattle.transactions.proofs.Entries.{table_changes, same_pages, same_with_page}
 use Rattle.transactions.proofs.LocksHeld.{locks_exclude}
 use Rattle.transactions.proofs.FramesSeen.{sees, frames_change}
-use Rattle.transactions.proofs.Opened.{IsOpened, open_lawful, known_there, known_placed}
-use Rattle.transactions.proofs.Refusals.{is_open, is_known, is_known_target, is_field, may_write, is_busy_to_write, wide_by, nobody_wrote}
+use Rattle.transactions.proofs.Opened.{IsOpened, open_in, open_lawful, known_there, known_placed}
+use Rattle.transactions.proofs.Refusals.{causes_before, is_known_target, nobody_wrote}
 
 -- ---- what is known before
-
-pub page_in_frames : (s : TransactionsParts) (w : World) (txn : ℕ) (e : OpenParts) (name : NameParts) (page : ℕ) → IsOpened s w txn e → has_name e.known name ≡ true → page ≡ name.page → page < length s.frames
-page_in_frames s w txn e name page o known is =
-    let p = (known_placed s w txn e name o known).0 in
-    let n = o.ready.stands.frames.count in
-    omega arith
-
-pub page_in_locks : (s : TransactionsParts) (w : World) (txn : ℕ) (e : OpenParts) (name : NameParts) (page : ℕ) → IsOpened s w txn e → has_name e.known name ≡ true → page ≡ name.page → page < s.locks.pages
-page_in_locks s w txn e name page o known is =
-    let p = (known_placed s w txn e name o known).0 in
-    let n = o.ready.stands.locks.pages in
-    omega arith
 
 -- the page of a known name, which nobody else wrote, is as the transaction sees it
 pub known_image : (s : TransactionsParts) (w : World) (to_write : Bool) (txn : ℕ) (e : OpenParts) (name : NameParts) (o : IsOpened s w txn e) → has_name e.known name ≡ true
@@ -55,11 +44,12 @@ pub record IsSlotOf (image : PageParts) (slot : ℕ) : Type 0 where
   pub used : (slot_at image slot).in_use ≡ true
   pub fields : length (slot_at image slot).refs ≡ OBJECT_FIELDS
 
-pub known_slot : (s : TransactionsParts) (w : World) (to_write : Bool) (txn : ℕ) (e : OpenParts) (name : NameParts) (page slot : ℕ) → IsOpened s w txn e → has_name e.known name ≡ true
-    → page ≡ name.page → slot ≡ name.slot → IsNobody (is_in_way to_write s.locks.held txn page) → IsSlotOf (frame_at s.frames page).current slot
-known_slot s w to_write txn e name page slot o known page_is slot_is nobody =
-    let there = known_there s w txn e name o known in
-    let placed = known_placed s w txn e name o known in
+known_slot : (s : TransactionsParts) (w : World) (txn : ℕ) (e : OpenParts) (name : NameParts) (page slot : ℕ) → IsReady s w → IsKnownTo s txn name e → MayWrite s txn e page
+    → page ≡ name.page → slot ≡ name.slot → IsSlotOf (frame_at s.frames page).current slot
+known_slot s w txn e name page slot ready known may page_is slot_is =
+    let o = open_in s w txn e ready known.found in
+    let there = known_there s w txn e name o known.known in
+    let placed = known_placed s w txn e name o known.known in
     let here = slot_of_known w o.of name fresh_slot there placed.1 in
     subst (λ p. IsSlotOf (frame_at s.frames p).current slot) (sym page_is) (subst (λ n. IsSlotOf (frame_at s.frames name.page).current n) (sym slot_is)
     (subst (λ i. IsSlotOf i name.slot) (sym image) (record {
@@ -68,42 +58,31 @@ known_slot s w to_write txn e name page slot o known page_is slot_is nobody =
       fields = ap (λ (x : SlotParts). length x.refs) here ∙ there_fields w o.of name there o.ready.stands.fields;
     })))
   where
-    image : (frame_at s.frames name.page).current ≡ image_in w (view w o.of) name.page
-    image = known_image s w to_write txn e name o known (subst (λ p. IsNobody (is_in_way to_write s.locks.held txn p)) page_is nobody)
+    image : (frame_at s.frames name.page).current ≡ image_in w (view w (open_in s w txn e ready known.found).of) name.page
+    image = known_image s w true txn e name (open_in s w txn e ready known.found) known.known (subst (λ p. IsNobody (is_in_way true s.locks.held txn p)) page_is may.nobody)
 
--- ---- the causes of a put and of a set
+-- and it still has once the page is taken
+pub taken_slot : (s new view : TransactionsParts) (w : World) (txn : ℕ) (e : OpenParts) (name : NameParts) (page slot : ℕ) → IsReady s w → IsKnownTo s txn name e → MayWrite s txn e page
+    → page ≡ name.page → slot ≡ name.slot → view ≡ new → TakesPage txn page s new → IsSlotOf (frame_at view.frames page).current slot
+taken_slot s new view w txn e name page slot ready known may page_is slot_is same takes =
+    subst (λ fs. IsSlotOf (frame_at fs page).current slot) (sym (ap (λ (v : TransactionsParts). v.frames) same ∙ takes.frames)) (known_slot s w txn e name page slot ready known may page_is slot_is)
 
--- those that come after the names are known
-abbrev pub from_page : World → ℕ → NameParts → List (Option Refusal)
-from_page w txn name = busy_to_write w txn name.page ∷ too_wide w txn name.page ∷ []
+-- ---- the causes of a put and of a set: past the names and the field, those of writing the page
 
-pub put_known : (s : TransactionsParts) (w : World) (txn : ℕ) (e : OpenParts) (name : NameParts) (value : ℕ) → IsOpened s w txn e → has_name e.known name ≡ true
-    → first_refusal w (Put txn name value) nothing ≡ first_met (from_page w txn name)
-put_known s w txn e name value o known =
-    is_open s w txn e (stranger w txn name ∷ from_page w txn name) o ∙ is_known s w txn e name (from_page w txn name) o known
+pub put_causes : (s : TransactionsParts) (w : World) (txn : ℕ) (name : NameParts) (value page : ℕ) (why : Option Refusal) → IsReady s w → page ≡ name.page
+    → FirstMet s (name_causes txn name) None → FirstMet s (write_causes txn page) why → first_refusal w (Put txn name value) nothing ≡ why
+put_causes s w txn name value page why ready is named written =
+    causes_before (name_causes txn name w) (write_causes txn name.page w) None (named w ready)
+    ∙ subst (λ p. first_met (write_causes txn p w) ≡ why) is (written w ready)
 
-pub set_known : (s : TransactionsParts) (w : World) (txn : ℕ) (e : OpenParts) (name : NameParts) (field : ℕ) (target : Option NameParts) → IsOpened s w txn e → has_name e.known name ≡ true
-    → knows_target e.known target ≡ true → field < OBJECT_FIELDS → first_refusal w (Set txn name field target) nothing ≡ first_met (from_page w txn name)
-set_known s w txn e name field target o known known_target low =
-    is_open s w txn e (stranger w txn name ∷ strange_target w txn target ∷ bad_field w name field ∷ from_page w txn name) o
-    ∙ (is_known s w txn e name (strange_target w txn target ∷ bad_field w name field ∷ from_page w txn name) o known
-    ∙ (is_known_target s w txn e target (bad_field w name field ∷ from_page w txn name) o known_target
-    ∙ is_field w name field (from_page w txn name) low))
-
-pub write_busy : (s : TransactionsParts) (w : World) (txn : ℕ) (e : OpenParts) (name : NameParts) (page holder : ℕ) → IsOpened s w txn e → page ≡ name.page
-    → IsLeast (is_in_way true s.locks.held txn page) holder → first_met (from_page w txn name) ≡ Some (Busy holder)
-write_busy s w txn e name page holder o is least =
-    is_busy_to_write s w txn name.page holder (too_wide w txn name.page ∷ []) o.ready (subst (λ p. IsLeast (is_in_way true s.locks.held txn p) holder) is least)
-
-pub write_wide : (s : TransactionsParts) (w : World) (txn : ℕ) (e : OpenParts) (name : NameParts) (page : ℕ) (b : Bool) → IsOpened s w txn e → page ≡ name.page
-    → IsNobody (is_in_way true s.locks.held txn page) → is_wide e.written page ≡ b → first_met (from_page w txn name) ≡ when b TooWide
-write_wide s w txn e name page b o is nobody wide =
-    may_write s w txn name.page (too_wide w txn name.page ∷ []) o.ready (subst (λ p. IsNobody (is_in_way true s.locks.held txn p)) is nobody)
-    ∙ (wide_by s w txn e name.page b [] o (subst (λ p. is_wide e.written p ≡ b) is wide) ∙ alone b)
-  where
-    alone : (b : Bool) → first_met (when b TooWide ∷ []) ≡ when b TooWide
-    alone true = refl
-    alone false = refl
+pub set_causes : (s : TransactionsParts) (w : World) (txn : ℕ) (e : OpenParts) (name : NameParts) (field : ℕ) (target : Option NameParts) (page : ℕ) (why : Option Refusal) → IsReady s w → page ≡ name.page
+    → IsKnownTo s txn name e → FirstMet s (name_causes txn name) None → knows_target e.known target ≡ true → FirstMet s (field_causes name field) None → FirstMet s (write_causes txn page) why
+    → first_refusal w (Set txn name field target) nothing ≡ why
+set_causes s w txn e name field target page why ready is known named known_target low written =
+    causes_before (name_causes txn name w) (strange_target w txn target ∷ field_causes name field w ++ write_causes txn name.page w) None (named w ready)
+    ∙ (is_known_target s w txn e target (field_causes name field w ++ write_causes txn name.page w) (open_in s w txn e ready known.found) known_target
+    ∙ (causes_before (field_causes name field w) (write_causes txn name.page w) None (low w ready)
+    ∙ subst (λ p. first_met (write_causes txn p w) ≡ why) is (written w ready)))
 
 -- ---- the write
 
@@ -112,13 +91,17 @@ abbrev pub slot_written : Write → SlotParts → SlotParts
 slot_written (link name field target) = with_ref field target
 slot_written (assign name value) = with_number value
 
+-- the frames after a write
+abbrev pub frames_written : ℕ → ℕ → Write → List Frame → List Frame
+frames_written page slot write frames = with_frame frames page (written (frame_at frames page) (with_slot (frame_at frames page).current slot (slot_written write)))
+
 -- the code's steps
 pub record HasWritten (s new : TransactionsParts) (txn page slot : ℕ) (write : Write) : Type 0 where
   pub nobody : IsNobody (is_in_way true s.locks.held txn page)
   pub locked : AddsExclusive s.locks.held new.locks.held txn page
   pub pages : new.locks.pages ≡ s.locks.pages
   pub noted : ChangesEntry (NotesPage page) txn s.table new.table
-  pub frames : new.frames ≡ with_frame s.frames page (written (frame_at s.frames page) (with_slot (frame_at s.frames page).current slot (slot_written write)))
+  pub frames : new.frames ≡ frames_written page slot write s.frames
 
 entry_writes : (e f : OpenParts) (t : Transaction) (write : Write) (page : ℕ) → IsEntry e t → NotesPage page e f → IsEntry f (writes write page t)
 entry_writes e f t write page h notes = record {
@@ -160,10 +143,20 @@ stands_here s new w txn e write o known run = record {
     change : Transaction → Transaction
     change = writes write (written_name write).page
 
--- all stands for the world after the write
-pub write_stands : (s new : TransactionsParts) (w : World) (txn : ℕ) (e : OpenParts) (page slot : ℕ) (write : Write) → IsOpened s w txn e → has_name e.known (written_name write) ≡ true
-    → page ≡ (written_name write).page → slot ≡ (written_name write).slot → HasWritten s new txn page slot write
-    → Stands new (with_transaction w txn (writes write (written_name write).page))
-write_stands s new w txn e page slot write o known page_is slot_is run =
-    stands_here s new w txn e write o known
-    (subst (λ p. HasWritten s new txn p (written_name write).slot write) page_is (subst (λ n. HasWritten s new txn page n write) slot_is run))
+-- all stands for the world after the page is taken and the write done
+pub write_stands : (s new view : TransactionsParts) (frames : List Frame) (w : World) (txn : ℕ) (e : OpenParts) (page slot : ℕ) (write : Write) → IsReady s w → IsKnownTo s txn (written_name write) e
+    → MayWrite s txn e page → page ≡ (written_name write).page → slot ≡ (written_name write).slot → view ≡ new → TakesPage txn page s new → frames ≡ frames_written page slot write view.frames
+    → Stands (record view { frames = frames }) (with_transaction w txn (writes write (written_name write).page))
+write_stands s new view frames w txn e page slot write ready known may page_is slot_is same takes run =
+    let takes_view = subst (λ (v : TransactionsParts). TakesPage txn page s v) (sym same) takes in
+    stands_here s after w txn e write (open_in s w txn e ready known.found) known.known
+    (subst (λ p. HasWritten s after txn p (written_name write).slot write) page_is (subst (λ n. HasWritten s after txn page n write) slot_is (record {
+      nobody = may.nobody;
+      locked = takes_view.locked;
+      pages = takes_view.pages;
+      noted = takes_view.noted;
+      frames = run ∙ ap (frames_written page slot write) takes_view.frames;
+    })))
+  where
+    after : TransactionsParts
+    after = record view { frames = frames }

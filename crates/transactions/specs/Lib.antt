@@ -1,4 +1,5 @@
 pub mod KnownNumbers
 pub mod Tables
 pub mod Standing
+pub mod Checks
 pub mod Calls

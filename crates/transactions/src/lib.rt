@@ -1,6 +1,7 @@
 //! The calls of open transactions, under page locks, over the frames of a store's pages.
 #![tactic(auto)]
 
+mod checking;
 mod finishing;
 mod known;
 mod laws;

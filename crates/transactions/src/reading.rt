@@ -39,16 +39,9 @@ impl Transactions {
         ensures frames { self.new.frames ≡ self.old.frames }
         ensures ticks { steps.new ≤ steps.old + 1 }
     {
-        let Some(entry) = self.table.find(txn) else {
-            return Err(Refusal::NotOpen);
-        };
-        if !entry.knows(name) {
-            return Err(Refusal::Stranger);
-        }
+        let entry = self.entry_knowing(txn, name)?;
+        self.check_field(name, field)?;
         let page = name.page();
-        if field as usize >= self.buffer.fields_of(page) {
-            return Err(Refusal::BadField);
-        }
         if let Err(Busy { holder }) = self.locks.check_shared(txn, page) {
             return Err(Refusal::Busy { holder });
         }
@@ -79,12 +72,7 @@ impl Transactions {
         ensures frames { self.new.frames ≡ self.old.frames }
         ensures ticks { steps.new ≤ steps.old + 1 }
     {
-        let Some(entry) = self.table.find(txn) else {
-            return Err(Refusal::NotOpen);
-        };
-        if !entry.knows(name) {
-            return Err(Refusal::Stranger);
-        }
+        self.entry_knowing(txn, name)?;
         let page = name.page();
         if let Err(Busy { holder }) = self.locks.try_shared(txn, page) {
             return Err(Refusal::Busy { holder });

@@ -7,7 +7,6 @@ ghost use Rattle.transactions.specs.Calls.{StepsWell, ChangesFramesOf};
 
 use crate::transactions::Transactions;
 use object_graph::{Name, Refusal, Steps};
-use page_locks::Busy;
 use std::sync::ledger::Ledger;
 
 impl Transactions {
@@ -27,26 +26,14 @@ impl Transactions {
         ensures frames { OnOk result (ChangesFramesOf (name.page ∷ []) self.old.frames self.new.frames) }
         ensures ticks { steps.new ≤ steps.old + 1 }
     {
-        let Some(entry) = self.table.find(txn) else {
-            return Err(Refusal::NotOpen);
-        };
-        if !entry.knows(name) || !entry.knows_target(&target) {
+        let entry = self.entry_knowing(txn, name)?;
+        if !entry.knows_target(&target) {
             return Err(Refusal::Stranger);
         }
+        self.check_field(name, field)?;
         let page = name.page();
-        if field as usize >= self.buffer.fields_of(page) {
-            return Err(Refusal::BadField);
-        }
-        if let Err(Busy { holder }) = self.locks.check_exclusive(txn, page) {
-            return Err(Refusal::Busy { holder });
-        }
-        if entry.is_too_wide(page) {
-            return Err(Refusal::TooWide);
-        }
-        let Ok(()) = self.locks.try_exclusive(txn, page) else {
-            unreachable!();
-        };
-        self.table.note_page(txn, page);
+        self.check_write(txn, entry, page)?;
+        self.take_page(txn, page);
         self.buffer
             .write_ref(page, name.slot(), field, target, steps);
         Ok(())
@@ -67,23 +54,10 @@ impl Transactions {
         ensures frames { OnOk result (ChangesFramesOf (name.page ∷ []) self.old.frames self.new.frames) }
         ensures ticks { steps.new ≤ steps.old + 1 }
     {
-        let Some(entry) = self.table.find(txn) else {
-            return Err(Refusal::NotOpen);
-        };
-        if !entry.knows(name) {
-            return Err(Refusal::Stranger);
-        }
+        let entry = self.entry_knowing(txn, name)?;
         let page = name.page();
-        if let Err(Busy { holder }) = self.locks.check_exclusive(txn, page) {
-            return Err(Refusal::Busy { holder });
-        }
-        if entry.is_too_wide(page) {
-            return Err(Refusal::TooWide);
-        }
-        let Ok(()) = self.locks.try_exclusive(txn, page) else {
-            unreachable!();
-        };
-        self.table.note_page(txn, page);
+        self.check_write(txn, entry, page)?;
+        self.take_page(txn, page);
         self.buffer.write_number(page, name.slot(), value, steps);
         Ok(())
     }
@@ -102,28 +76,18 @@ impl Transactions {
         ensures frames { OnOk result (ChangesFramesOf (page ∷ []) self.old.frames self.new.frames) }
         ensures ticks { steps.new ≤ steps.old + 1 }
     {
-        let Some(entry) = self.table.find(txn) else {
-            return Err(Refusal::NotOpen);
-        };
+        let entry = self.entry(txn)?;
         if page >= self.buffer.count() {
             return Err(Refusal::NoPage);
         }
-        if let Err(Busy { holder }) = self.locks.check_exclusive(txn, page) {
-            return Err(Refusal::Busy { holder });
-        }
-        if entry.is_too_wide(page) {
-            return Err(Refusal::TooWide);
-        }
+        self.check_write(txn, entry, page)?;
         if entry.knows_most() {
             return Err(Refusal::KnowsTooMany);
         }
         let Ok(name) = self.buffer.take_slot(page, steps) else {
             return Err(Refusal::PageFull { page });
         };
-        let Ok(()) = self.locks.try_exclusive(txn, page) else {
-            unreachable!();
-        };
-        self.table.note_page(txn, page);
+        self.take_page(txn, page);
         self.table.note_target(txn, &Some(name));
         Ok(name)
     }

@@ -1,113 +1,51 @@
-use Rattle.std.proofs.Common.{[], ◌∷◌, ℕ, ◌<◌, true, sym, arith, subst, ◌∙◌, refl}
+use Rattle.std.proofs.Common.{◌∷◌, ◌++◌, sym, arith, refl}
 use Rattle.object_graph.specs.declared.calls.Call.TheVariants.{Set}
-use Rattle.object_graph.specs.declared.calls.Refusal.TheVariants.{Busy, TooWide}
+use Rattle.object_graph.specs.Replies.{done_reply}
+use Rattle.store_model.specs.Causes.{strange_target}
 use Rattle.store_model.specs.Worlds.{link}
-use Rattle.transactions.specs.Calls.{ChangesFramesOf}
-use Rattle.transactions.specs.Standing.{TransactionsParts}
-use Rattle.transactions.proofs.Opened.{opened, open_admitted}
-use Rattle.transactions.proofs.PagesChanged.{changes_of_one}
-use Rattle.transactions.proofs.Refusals.{refused}
-use Rattle.transactions.proofs.Writes.{page_in_frames, page_in_locks, known_slot, set_known, write_busy, write_wide, write_stands}
+use Rattle.transactions.specs.Checks.{name_causes, field_causes, write_causes}
+use Rattle.transactions.proofs.Ready.{hands_on}
+use Rattle.transactions.proofs.Refusals.{causes_before}
+use Rattle.transactions.proofs.Writes.{taken_slot, set_causes, write_stands}
 use Rattle.transactions.proofs.transactions.Transactions.set.Goals as goal
 
-pub fields_of-requires : goal.fields_of-requires
-fields_of-requires g c =
-    page_in_frames _ c.requires.0 c.args.txn c.in-Some.entry.now c.args.name c.page-page.result
-    (opened c.args.self.now _ c.requires.0 c.args.txn c.in-Some.entry.now (sym c.self.view_is) (sym c.in-Some.ensures) c.requires.1)
-    (sym c.if-not-knows.ensures) c.page-page.ensures.value
+pub returns-in_err-entry-clause-steps : goal.returns-in_err-entry-clause-steps
+returns-in_err-entry-clause-steps g c = λ w r.
+    hands_on done_reply c.from_residual.result _ w (Set c.args.txn c.args.name c.args.field c.args.target) _ refl c.from_residual.ensures.1 refl r.stands
+    (causes_before (name_causes c.args.txn c.args.name w) (strange_target w c.args.txn c.args.target ∷ field_causes c.args.name c.args.field w ++ write_causes c.args.txn c.args.name.page w) _
+    (c.in_err-entry.ensures.causes w r))
 
-pub check_exclusive-requires-clause-admitted : goal.check_exclusive-requires-clause-admitted
-check_exclusive-requires-clause-admitted g c =
-    open_admitted _ c.requires.0 c.args.txn c.in-Some.entry.now
-    (opened c.args.self.now _ c.requires.0 c.args.txn c.in-Some.entry.now (sym c.self.view_is) (sym c.in-Some.ensures) c.requires.1)
-
-pub check_exclusive-requires-clause-page : goal.check_exclusive-requires-clause-page
-check_exclusive-requires-clause-page g c =
-    page_in_locks _ c.requires.0 c.args.txn c.in-Some.entry.now c.args.name c.page-page.result
-    (opened c.args.self.now _ c.requires.0 c.args.txn c.in-Some.entry.now (sym c.self.view_is) (sym c.in-Some.ensures) c.requires.1)
-    (sym c.if-not-knows.ensures) c.page-page.ensures.value
-
-pub returns-in-Err-clause-steps : goal.returns-in-Err-clause-steps
-returns-in-Err-clause-steps g c = λ w r.
-    let o = opened c.args.self.now _ w c.args.txn c.in-Some.entry.now (sym c.self.view_is) (sym c.in-Some.ensures) r in
-    record {
-      allowed = refused w (Set c.args.txn c.args.name c.args.field c.args.target) (Busy c.in-Err.field-0.holder)
-          (set_known _ w c.args.txn c.in-Some.entry.now c.args.name c.args.field c.args.target o (sym c.if-not-knows.ensures) (sym c.knows_target.ensures ∙ c.if-not-knows_target.false) (subst (λ (n : ℕ). c.args.field < n) c.fields_of.ensures c.if-field-fields_of.false)
-          ∙ write_busy _ w c.args.txn c.in-Some.entry.now c.args.name c.page-page.result c.in-Err.field-0.holder o c.page-page.ensures.value c.in-Err.ensures.busy);
-      stands = r.stands;
-    }
-
-pub returns-then-is_too_wide-clause-steps : goal.returns-then-is_too_wide-clause-steps
-returns-then-is_too_wide-clause-steps g c = λ w r.
-    let o = opened c.args.self.now _ w c.args.txn c.in-Some.entry.now (sym c.self.view_is) (sym c.in-Some.ensures) r in
-    record {
-      allowed = refused w (Set c.args.txn c.args.name c.args.field c.args.target) TooWide
-          (set_known _ w c.args.txn c.in-Some.entry.now c.args.name c.args.field c.args.target o (sym c.if-not-knows.ensures) (sym c.knows_target.ensures ∙ c.if-not-knows_target.false) (subst (λ (n : ℕ). c.args.field < n) c.fields_of.ensures c.if-field-fields_of.false)
-          ∙ write_wide _ w c.args.txn c.in-Some.entry.now c.args.name c.page-page.result _ o c.page-page.ensures.value c.in_default-check_exclusive.ensures.free (sym c.if-is_too_wide.ensures));
-      stands = r.stands;
-    }
-
-pub try_exclusive-requires-clause-admitted : goal.try_exclusive-requires-clause-admitted
-try_exclusive-requires-clause-admitted g c =
-    open_admitted _ c.requires.0 c.args.txn c.in-Some.entry.now
-    (opened c.args.self.now _ c.requires.0 c.args.txn c.in-Some.entry.now (sym c.self.view_is) (sym c.in-Some.ensures) c.requires.1)
-
-pub try_exclusive-requires-clause-page : goal.try_exclusive-requires-clause-page
-try_exclusive-requires-clause-page g c =
-    page_in_locks _ c.requires.0 c.args.txn c.in-Some.entry.now c.args.name c.page-page.result
-    (opened c.args.self.now _ c.requires.0 c.args.txn c.in-Some.entry.now (sym c.self.view_is) (sym c.in-Some.ensures) c.requires.1)
-    (sym c.if-not-knows.ensures) c.page-page.ensures.value
-
-pub write_ref-requires-clause-page : goal.write_ref-requires-clause-page
-write_ref-requires-clause-page g c =
-    page_in_frames _ c.requires.0 c.args.txn c.in-Some.entry.now c.args.name c.page-page.result
-    (opened c.args.self.now _ c.requires.0 c.args.txn c.in-Some.entry.now (sym c.self.view_is) (sym c.in-Some.ensures) c.requires.1)
-    (sym c.if-not-knows.ensures) c.page-page.ensures.value
+pub returns-in_err-check_write-clause-steps : goal.returns-in_err-check_write-clause-steps
+returns-in_err-check_write-clause-steps g c = λ w r.
+    hands_on done_reply c.from_residual-in_err-check_write.result _ w (Set c.args.txn c.args.name c.args.field c.args.target) _ refl c.from_residual-in_err-check_write.ensures.1 refl r.stands
+    (set_causes c.args.self.now w c.args.txn _ c.args.name c.args.field c.args.target c.page-page.result _ r c.page-page.ensures.value c.in_ok-entry.ensures.found
+    c.in_ok-entry.ensures.causes (sym c.if-not-knows_target.ensures) c.in_ok-check_field.ensures.causes c.in_err-check_write.ensures.causes)
 
 pub write_ref-requires-clause-slot : goal.write_ref-requires-clause-slot
 write_ref-requires-clause-slot g c =
-    (known_slot _ c.requires.0 true c.args.txn c.in-Some.entry.now c.args.name c.page-page.result c.slot.result
-    (opened c.args.self.now _ c.requires.0 c.args.txn c.in-Some.entry.now (sym c.self.view_is) (sym c.in-Some.ensures) c.requires.1)
-    (sym c.if-not-knows.ensures) c.page-page.ensures.value c.slot.ensures.value c.in-Ok.ensures.free).within
+    (taken_slot _ _ _ c.requires.0 c.args.txn _ c.args.name c.page-page.result c.slot.result c.requires.1
+    c.in_ok-entry.ensures.found c.in_ok-check_write.ensures.may c.page-page.ensures.value c.slot.ensures.value c.self.view_is c.take_page.ensures).within
 
 pub write_ref-requires-clause-used : goal.write_ref-requires-clause-used
 write_ref-requires-clause-used g c =
-    (known_slot _ c.requires.0 true c.args.txn c.in-Some.entry.now c.args.name c.page-page.result c.slot.result
-    (opened c.args.self.now _ c.requires.0 c.args.txn c.in-Some.entry.now (sym c.self.view_is) (sym c.in-Some.ensures) c.requires.1)
-    (sym c.if-not-knows.ensures) c.page-page.ensures.value c.slot.ensures.value c.in-Ok.ensures.free).used
+    (taken_slot _ _ _ c.requires.0 c.args.txn _ c.args.name c.page-page.result c.slot.result c.requires.1
+    c.in_ok-entry.ensures.found c.in_ok-check_write.ensures.may c.page-page.ensures.value c.slot.ensures.value c.self.view_is c.take_page.ensures).used
 
 pub write_ref-requires-clause-field : goal.write_ref-requires-clause-field
 write_ref-requires-clause-field g c =
-    let n = (known_slot _ c.requires.0 true c.args.txn c.in-Some.entry.now c.args.name c.page-page.result c.slot.result
-    (opened c.args.self.now _ c.requires.0 c.args.txn c.in-Some.entry.now (sym c.self.view_is) (sym c.in-Some.ensures) c.requires.1)
-    (sym c.if-not-knows.ensures) c.page-page.ensures.value c.slot.ensures.value c.in-Ok.ensures.free).fields in
-    let low = (subst (λ (n : ℕ). c.args.field < n) c.fields_of.ensures c.if-field-fields_of.false) in
+    let fields =
+    (taken_slot _ _ _ c.requires.0 c.args.txn _ c.args.name c.page-page.result c.slot.result c.requires.1
+    c.in_ok-entry.ensures.found c.in_ok-check_write.ensures.may c.page-page.ensures.value c.slot.ensures.value c.self.view_is c.take_page.ensures).fields in
+    let within = c.in_ok-check_field.ensures.within in
     omega arith
 
 pub returns-clause-steps : goal.returns-clause-steps
-returns-clause-steps g c = λ w r.
-    let o = opened c.args.self.now _ w c.args.txn c.in-Some.entry.now (sym c.self.view_is) (sym c.in-Some.ensures) r in
-    record {
-      allowed = (
-        set_known _ w c.args.txn c.in-Some.entry.now c.args.name c.args.field c.args.target o (sym c.if-not-knows.ensures) (sym c.knows_target.ensures ∙ c.if-not-knows_target.false) (subst (λ (n : ℕ). c.args.field < n) c.fields_of.ensures c.if-field-fields_of.false)
-            ∙ write_wide _ w c.args.txn c.in-Some.entry.now c.args.name c.page-page.result _ o c.page-page.ensures.value c.in_default-check_exclusive.ensures.free (sym c.if-is_too_wide.ensures),
-        refl,
-      );
-      stands = write_stands _ _ w c.args.txn c.in-Some.entry.now c.page-page.result c.slot.result (link c.args.name c.args.field c.args.target) o (sym c.if-not-knows.ensures) c.page-page.ensures.value c.slot.ensures.value
-          (record {
-            nobody = c.in-Ok.ensures.free;
-            locked = c.in-Ok.ensures.taken;
-            pages = c.in-Ok.ensures.pages;
-            noted = c.note_page.ensures;
-            frames = c.write_ref.ensures.written;
-          });
-    }
-
-pub returns-clause-frames : goal.returns-clause-frames
-returns-clause-frames g c =
-    subst (λ (s : TransactionsParts). ChangesFramesOf (c.args.name.page ∷ []) s.frames c.write_ref.new.self) c.self.view_is
-    (changes_of_one c.self.inside.buffer c.write_ref.new.self c.args.name.page c.page-page.result _
-    (page_in_frames _ c.requires.0 c.args.txn c.in-Some.entry.now c.args.name c.page-page.result
-    (opened c.args.self.now _ c.requires.0 c.args.txn c.in-Some.entry.now (sym c.self.view_is) (sym c.in-Some.ensures) c.requires.1)
-    (sym c.if-not-knows.ensures) c.page-page.ensures.value)
-    c.page-page.ensures.value c.write_ref.ensures.written)
+returns-clause-steps g c = λ w r. record {
+  allowed = (
+    set_causes c.args.self.now w c.args.txn _ c.args.name c.args.field c.args.target c.page-page.result _ r c.page-page.ensures.value c.in_ok-entry.ensures.found
+        c.in_ok-entry.ensures.causes (sym c.if-not-knows_target.ensures) c.in_ok-check_field.ensures.causes c.in_ok-check_write.ensures.causes,
+    refl,
+  );
+  stands = write_stands _ _ _ _ w c.args.txn _ c.page-page.result c.slot.result (link c.args.name c.args.field c.args.target) r
+      c.in_ok-entry.ensures.found c.in_ok-check_write.ensures.may c.page-page.ensures.value c.slot.ensures.value c.self.view_is c.take_page.ensures c.write_ref.ensures.written;
+}
