@@ -21,7 +21,7 @@ use Rattle.page_buffer.specs.Frames.{frame_at, with_frame, written}
 use Rattle.page_locks.specs.Holding.{is_in_way, IsNobody, AddsExclusive}
 use Rattle.transactions.specs.Tables.{OpenParts, HaveSamePages, HaveSameNames, ChangesEntry, NotesPage, NotesTarget}
 use Rattle.transactions.specs.Standing.{TransactionsParts, image_in, IsEntry, AreFramesOf, IsReady, Stands}
-use Rattle.transactions.specs.Checks.{FirstMet, open_causes, write_causes, IsOpenWith, MayWrite}
+use Rattle.transactions.specs.Checks.{open_causes, write_causes, IsOpenWith, MayWrite}
 use Rattle.transactions.proofs.Shown.{length-shown, get-shown}
 use Rattle.transactions.proofs.FreeSlots.{first_free, none_free}
 use Rattle.transactions.proofs.Made.{IsFreePlace, free_place, new_on_page, new_on_another_page, free_generation}
@@ -37,29 +37,32 @@ use Rattle.transactions.proofs.Refusals.{causes_before, is_page, full_by, nobody
 abbrev pub making_causes : ℕ → ℕ → World → List (Option Refusal)
 making_causes txn page w = knows_too_many w txn ∷ page_full w txn page ∷ []
 
-pub new_causes : (s : TransactionsParts) (w : World) (txn page : ℕ) (why : Option Refusal) → IsReady s w → page < length s.frames → FirstMet s (open_causes txn) None → FirstMet s (write_causes txn page) why
+pub new_causes : (w : World) (txn page : ℕ) (why : Option Refusal) → page < w.pages → first_met (open_causes txn w) ≡ None → first_met (write_causes txn page w) ≡ why
     → first_refusal w (New txn page) nothing ≡ option_or why (first_met (making_causes txn page w))
-new_causes s w txn page why ready low asked written =
-    causes_before (open_causes txn w) (no_page w page ∷ write_causes txn page w ++ making_causes txn page w) None (asked w ready)
-    ∙ (is_page w page (write_causes txn page w ++ making_causes txn page w) (page_below s w page ready low)
-    ∙ causes_before (write_causes txn page w) (making_causes txn page w) why (written w ready))
+new_causes w txn page why low open_to writing =
+    causes_before (open_causes txn w) (no_page w page ∷ write_causes txn page w ++ making_causes txn page w) None open_to
+    ∙ (is_page w page (write_causes txn page w ++ making_causes txn page w) low
+    ∙ causes_before (write_causes txn page w) (making_causes txn page w) why writing)
 
--- none of the causes is met up to those of writing the page
-pub record IsAsked (s : TransactionsParts) (txn : ℕ) (e : OpenParts) (page : ℕ) : Type 0 where
+-- the open transaction may write the page, in a world for which all stands
+pub record MayWriteIn (s : TransactionsParts) (w : World) (txn : ℕ) (e : OpenParts) (page : ℕ) : Type 0 where
+  pub ready : IsReady s w
   pub found : IsOpenWith s txn e
-  pub frame : page < length s.frames
-  pub asked : FirstMet s (open_causes txn) None
-  pub written : FirstMet s (write_causes txn page) None
+  pub low : page < w.pages
   pub may : MayWrite s txn e page
 
-to_known : (s : TransactionsParts) (w : World) (txn : ℕ) (e : OpenParts) (page : ℕ) (b : Bool) → IsReady s w → IsAsked s txn e page
-    → nat_le MOST_KNOWN (length e.known) ≡ b → first_refusal w (New txn page) nothing ≡ first_met (when b KnowsTooMany ∷ page_full w txn page ∷ [])
-to_known s w txn e page b ready a full =
-    new_causes s w txn page None ready a.frame a.asked a.written ∙ full_by s w txn e b (page_full w txn page ∷ []) (open_in s w txn e ready a.found) full
+pub may_write_in : (s view : TransactionsParts) (w : World) (txn : ℕ) (e : OpenParts) (page : ℕ) → view ≡ s → IsReady s w → IsOpenWith s txn e → page < length view.frames → MayWrite s txn e page
+    → MayWriteIn view w txn e page
+may_write_in s view w txn e page same ready found low may =
+    subst (λ v. MayWriteIn v w txn e page) (sym same)
+    (record { ready = ready; found = found; low = page_below s w page ready (subst (λ (v : TransactionsParts). page < length v.frames) same low); may = may })
 
-pub create_knowing : (s : TransactionsParts) (w : World) (txn : ℕ) (e : OpenParts) (page : ℕ) → IsReady s w → IsAsked s txn e page → nat_le MOST_KNOWN (length e.known) ≡ true
-    → first_refusal w (New txn page) nothing ≡ Some KnowsTooMany
-create_knowing s w txn e page ready a full = to_known s w txn e page true ready a full
+-- where as many names are known as can be, and where not
+known_causes : (s : TransactionsParts) (w : World) (txn : ℕ) (e : OpenParts) (page : ℕ) (b : Bool) → MayWriteIn s w txn e page
+    → first_met (open_causes txn w) ≡ None → first_met (write_causes txn page w) ≡ None → nat_le MOST_KNOWN (length e.known) ≡ b
+    → first_refusal w (New txn page) nothing ≡ first_met (when b KnowsTooMany ∷ page_full w txn page ∷ [])
+known_causes s w txn e page b m open_to writing full =
+    new_causes w txn page None m.low open_to writing ∙ full_by s w txn e b (page_full w txn page ∷ []) (open_in s w txn e m.ready m.found) full
 
 -- ---- the page as it is seen
 
@@ -76,23 +79,31 @@ slot_seen w t page slot image is lt =
 slots_seen : (w : World) (t : Transaction) (page : ℕ) (image : PageParts) → image ≡ image_in w (view w t) page → length image.slots ≡ slots_of w page
 slots_seen w t page image is = ap (λ (i : PageParts). length i.slots) is ∙ length-shown (slots_of w page) (fields_of w page) (view w t) w.freed page
 
-pub create_full : (s : TransactionsParts) (w : World) (txn : ℕ) (e : OpenParts) (page : ℕ) → IsReady s w → IsAsked s txn e page → nat_le MOST_KNOWN (length e.known) ≡ false
-    → IsFull (frame_at s.frames page).current → first_refusal w (New txn page) nothing ≡ Some (PageFull page)
-create_full s w txn e page ready a spare full =
-    let o = open_in s w txn e ready a.found in
-    let image = seen_image s w txn e page o (page_below s w page ready a.frame) a.may.nobody in
-    let none = none_free w txn o.of page o.ready.lawful o.found (λ slot lt.
+pub no_slot : (s : TransactionsParts) (w : World) (txn : ℕ) (e : OpenParts) (page : ℕ) → MayWriteIn s w txn e page → IsFull (frame_at s.frames page).current → free_slot w txn page ≡ None
+no_slot s w txn e page m full =
+    let o = open_in s w txn e m.ready m.found in
+    let image = seen_image s w txn e page o m.low m.may.nobody in
+    none_free w txn o.of page o.ready.lawful o.found (λ slot lt.
     let count = slots_seen w o.of page (frame_at s.frames page).current image in
     let within : slot < length (frame_at s.frames page).current.slots = subst (λ n. slot < n) (sym count) lt in
-    sym (ap has_room (slot_seen w o.of page slot (frame_at s.frames page).current image lt)) ∙ full slot within) in
-    to_known s w txn e page false ready a spare ∙ ap (λ x. first_met (when (is_none x) (PageFull page) ∷ [])) none
+    sym (ap has_room (slot_seen w o.of page slot (frame_at s.frames page).current image lt)) ∙ full slot within)
+
+-- as many names are known as can be
+pub create_knowing : (s : TransactionsParts) (w : World) (txn : ℕ) (e : OpenParts) (page : ℕ) → MayWriteIn s w txn e page → first_met (open_causes txn w) ≡ None → first_met (write_causes txn page w) ≡ None
+    → nat_le MOST_KNOWN (length e.known) ≡ true → first_refusal w (New txn page) nothing ≡ Some KnowsTooMany
+create_knowing s w txn e page m open_to writing full = known_causes s w txn e page true m open_to writing full
+
+-- they aren't, and the page has a slot or not
+pub slot_causes : (s : TransactionsParts) (w : World) (txn : ℕ) (e : OpenParts) (page : ℕ) (slot : Option ℕ) → MayWriteIn s w txn e page → first_met (open_causes txn w) ≡ None
+    → first_met (write_causes txn page w) ≡ None → nat_le MOST_KNOWN (length e.known) ≡ false → free_slot w txn page ≡ slot
+    → first_refusal w (New txn page) nothing ≡ first_met (when (is_none slot) (PageFull page) ∷ [])
+slot_causes s w txn e page slot m open_to writing spare is =
+    known_causes s w txn e page false m open_to writing spare ∙ ap (λ x. first_met (when (is_none x) (PageFull page) ∷ [])) is
 
 -- ---- the new object
 
 -- the code's steps
-pub record HasMade (s new : TransactionsParts) (txn : ℕ) (e : OpenParts) (page : ℕ) (name : NameParts) : Type 0 where
-  pub before : IsAsked s txn e page
-  pub spare : nat_le MOST_KNOWN (length e.known) ≡ false
+pub record HasMade (s new : TransactionsParts) (txn page : ℕ) (name : NameParts) : Type 0 where
   pub locked : AddsExclusive s.locks.held new.locks.held txn page
   pub pages : new.locks.pages ≡ s.locks.pages
   pub noted : ChangesEntry (ChangesTwice (NotesPage page) (NotesTarget (Some name))) txn s.table new.table
@@ -101,7 +112,7 @@ pub record HasMade (s new : TransactionsParts) (txn : ℕ) (e : OpenParts) (page
 
 -- the name is the model's, and all stands for the world with the object
 pub record IsMade (w : World) (new : TransactionsParts) (txn page : ℕ) (name : NameParts) : Type 0 where
-  pub allowed : first_refusal w (New txn page) nothing ≡ None
+  pub free : free_slot w txn page ≡ Some name.slot
   pub named : new_name w txn page ≡ Some name
   pub stands : Stands new (with_transaction w txn (makes name))
 
@@ -116,10 +127,10 @@ entry_makes e f t page name is h notes =
           (same_pages g.written (with_page page e.written) (with_page page t.pages_written) notes.1.written (same_with_page page e.written t.pages_written h.written)));
     }
 
-made_at : (s new : TransactionsParts) (w : World) (txn : ℕ) (e : OpenParts) (page slot : ℕ) (o : IsOpened s w txn e) → page < w.pages → slot < slots_of w page
-    → free_slot w txn page ≡ Some slot → IsFreePlace w o.of page slot → HasMade s new txn e page (name_at w.graph page slot) → IsMade w new txn page (name_at w.graph page slot)
-made_at s new w txn e page slot o low within found free run = record {
-  allowed = to_known s w txn e page false o.ready run.before run.spare ∙ ap (λ x. first_met (when (is_none x) (PageFull page) ∷ [])) found;
+made_at : (s new : TransactionsParts) (w : World) (txn : ℕ) (e : OpenParts) (page slot : ℕ) (o : IsOpened s w txn e) → page < w.pages → IsNobody (is_in_way true s.locks.held txn page)
+    → slot < slots_of w page → free_slot w txn page ≡ Some slot → IsFreePlace w o.of page slot → HasMade s new txn page (name_at w.graph page slot) → IsMade w new txn page (name_at w.graph page slot)
+made_at s new w txn e page slot o low nobody within found free run = record {
+  free = found;
   named = ap (option_map (name_at w.graph page)) found;
   stands = record {
     fields = o.ready.stands.fields;
@@ -128,8 +139,8 @@ made_at s new w txn e page slot o low within found free run = record {
     locks = locks_exclude w s.locks new.locks txn page (makes name) o.of o.ready.stands.locks o.found (λ t. refl) refl refl run.pages run.locked;
     frames = subst (AreFramesOf (with_transaction w txn (makes name))) (sym run.frames)
         (frames_change w s.frames txn page (written (frame_at s.frames page) (with_slot (frame_at s.frames page).current slot taken)) (makes name) o.of
-        o.ready.stands.frames low o.found (λ t. refl) refl (λ u ne. nobody_wrote s w true txn page u o.ready run.before.may.nobody ne) refl refl
-        (ap (λ i. with_slot i slot taken) (seen_image s w txn e page o low run.before.may.nobody)
+        o.ready.stands.frames low o.found (λ t. refl) refl (λ u ne. nobody_wrote s w true txn page u o.ready nobody ne) refl refl
+        (ap (λ i. with_slot i slot taken) (seen_image s w txn e page o low nobody)
         ∙ ap (λ slots. record { number = page; slots = slots }) (new_on_page w txn o.of page slot fresh_slot o.ready.lawful o.found free within))
         (λ p ne. ap (λ slots. record { number = p; slots = slots }) (new_on_another_page w o.of page slot p ne)));
   };
@@ -147,12 +158,11 @@ next_is w t page image name is next within generation =
     ∙ ap (λ g. name_of page name.slot g)
     (next.generation ∙ (ap (λ (x : SlotParts). x.generation + 1) (slot_seen w t page name.slot image is within) ∙ (let g = generation in omega arith)))
 
-pub creates : (s new : TransactionsParts) (w : World) (txn : ℕ) (e : OpenParts) (page : ℕ) (name : NameParts) → IsReady s w → HasMade s new txn e page name → IsMade w new txn page name
-creates s new w txn e page name ready run =
-    let o = open_in s w txn e ready run.before.found in
-    let low = page_below s w page ready run.before.frame in
+pub creates : (s new : TransactionsParts) (w : World) (txn : ℕ) (e : OpenParts) (page : ℕ) (name : NameParts) → MayWriteIn s w txn e page → HasMade s new txn page name → IsMade w new txn page name
+creates s new w txn e page name m run =
+    let o = open_in s w txn e m.ready m.found in
     let now : PageParts = (frame_at s.frames page).current in
-    let image : now ≡ image_in w (view w o.of) page = seen_image s w txn e page o low run.before.may.nobody in
+    let image : now ≡ image_in w (view w o.of) page = seen_image s w txn e page o m.low m.may.nobody in
     let count : length now.slots ≡ slots_of w page = slots_seen w o.of page now image in
     let within : name.slot < slots_of w page = subst (λ n. name.slot < n) count run.next.slot.within in
     let room : has_room (shown_slot (fields_of w page) (view w o.of) w.freed page name.slot) ≡ true = sym (ap has_room (slot_seen w o.of page name.slot now image within)) ∙ run.next.slot.room in
@@ -162,7 +172,7 @@ creates s new w txn e page name ready run =
     (λ slot lt. let less : slot < slots_of w page = let k = within in omega arith in sym (ap has_room (slot_seen w o.of page slot now image less)) ∙ run.next.slot.least slot lt) in
     let same : name ≡ name_at w.graph page name.slot = next_is w o.of page now name image run.next within (free_generation w o.of page name.slot free) in
     subst (λ n. IsMade w new txn page n) (sym same)
-    (made_at s new w txn e page name.slot o low within found free (subst (λ n. HasMade s new txn e page n) same run))
+    (made_at s new w txn e page name.slot o m.low m.may.nobody within found free (subst (λ n. HasMade s new txn page n) same run))
 
 -- the answer, as the model names it
 pub answers_made : (w : World) (txn page : ℕ) (name : NameParts) → new_name w txn page ≡ Some name → AnswersNew (new_name w txn page) (Made name)

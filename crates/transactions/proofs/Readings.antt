@@ -19,7 +19,7 @@ use Rattle.page_buffer.specs.Frames.{frame_at}
 use Rattle.page_locks.specs.Holding.{is_in_way, IsNobody, AddsShared}
 use Rattle.transactions.specs.Tables.{OpenParts, is_full_for, HaveSamePages, ChangesEntry, NotesTarget}
 use Rattle.transactions.specs.Standing.{TransactionsParts, IsEntry, IsTable, AreFramesOf, IsReady, Stands}
-use Rattle.transactions.specs.Checks.{FirstMet, name_causes, field_causes, IsKnownTo}
+use Rattle.transactions.specs.Checks.{name_causes, field_causes, IsKnownTo}
 use Rattle.transactions.proofs.Numbers.{transaction_found}
 use Rattle.transactions.proofs.Seen.{object_found, known_unfreed, there_fields}
 use Rattle.transactions.proofs.Images.{slot_of_known}
@@ -31,6 +31,14 @@ use Rattle.transactions.proofs.Refusals.{causes_before, may_read, full_for_by}
 use Rattle.transactions.proofs.Writes.{known_image}
 
 -- ---- what is read
+
+-- the transaction knows the name, in a world for which all stands
+pub record KnowsIn (s : TransactionsParts) (w : World) (txn : ℕ) (name : NameParts) (e : OpenParts) : Type 0 where
+  pub ready : IsReady s w
+  pub known : IsKnownTo s txn name e
+
+pub knows_in : (s view : TransactionsParts) (w : World) (txn : ℕ) (name : NameParts) (e : OpenParts) → view ≡ s → IsReady s w → IsKnownTo s txn name e → KnowsIn view w txn name e
+knows_in s view w txn name e same ready known = subst (λ v. KnowsIn v w txn name e) (sym same) (record { ready = ready; known = known })
 
 -- the object in the current image is the one that the transaction sees
 read_object : (s : TransactionsParts) (w : World) (txn : ℕ) (e : OpenParts) (name : NameParts) (page : ℕ) (o : IsOpened s w txn e) (known : has_name e.known name ≡ true)
@@ -48,65 +56,63 @@ seen_object s w txn e name o known =
     ∙ object_found w o.of name (known_there s w txn e name o known) (known_unfreed w o.of name o.ready.lawful (open_member s w txn e o) (sym (o.entry.known.each name) ∙ known))
 
 -- it is there
-pub is_read : (s : TransactionsParts) (w : World) (txn : ℕ) (e : OpenParts) (name : NameParts) (page : ℕ) → IsReady s w → IsKnownTo s txn name e
+pub is_read : (s : TransactionsParts) (w : World) (txn : ℕ) (e : OpenParts) (name : NameParts) (page : ℕ) → KnowsIn s w txn name e
     → page ≡ name.page → IsNobody (is_in_way false s.locks.held txn page) → object_at (frame_at s.frames name.page).current name.slot ≡ None → ⊥
-is_read s w txn e name page ready known is nobody none =
-    let o = open_in s w txn e ready known.found in
-    let some = read_object s w txn e name page o known.known is nobody in cc
+is_read s w txn e name page knows is nobody none =
+    let o = open_in s w txn e knows.ready knows.known.found in
+    let some = read_object s w txn e name page o knows.known.known is nobody in cc
 
 same_object : (a b : ObjectParts) (x : Option ObjectParts) → x ≡ Some a → x ≡ Some b → a ≡ b
 same_object a b x p q = cc
 
-pub read_number : (s : TransactionsParts) (w : World) (txn : ℕ) (e : OpenParts) (name : NameParts) (page : ℕ) (object : ObjectParts) → IsReady s w → IsKnownTo s txn name e
+pub read_number : (s : TransactionsParts) (w : World) (txn : ℕ) (e : OpenParts) (name : NameParts) (page : ℕ) (object : ObjectParts) → KnowsIn s w txn name e
     → page ≡ name.page → IsNobody (is_in_way false s.locks.held txn page) → object_at (frame_at s.frames name.page).current name.slot ≡ Some object
     → object.number ≡ number_seen w txn name
-read_number s w txn e name page object ready known is nobody found =
-    let o = open_in s w txn e ready known.found in
-    let there = known_there s w txn e name o known.known in
-    ap (λ (x : ObjectParts). x.number) (same_object object there.object (object_at (frame_at s.frames name.page).current name.slot) found (read_object s w txn e name page o known.known is nobody))
-    ∙ ap (λ x. unwrap_or (option_map (λ (x : ObjectParts). x.number) x) 0) (sym (seen_object s w txn e name o known.known))
+read_number s w txn e name page object knows is nobody found =
+    let o = open_in s w txn e knows.ready knows.known.found in
+    let there = known_there s w txn e name o knows.known.known in
+    ap (λ (x : ObjectParts). x.number) (same_object object there.object (object_at (frame_at s.frames name.page).current name.slot) found (read_object s w txn e name page o knows.known.known is nobody))
+    ∙ ap (λ x. unwrap_or (option_map (λ (x : ObjectParts). x.number) x) 0) (sym (seen_object s w txn e name o knows.known.known))
 
-pub read_field : (s : TransactionsParts) (w : World) (txn : ℕ) (e : OpenParts) (name : NameParts) (page field : ℕ) (object : ObjectParts) (d : Option NameParts) → IsReady s w → IsKnownTo s txn name e
+pub read_field : (s : TransactionsParts) (w : World) (txn : ℕ) (e : OpenParts) (name : NameParts) (page field : ℕ) (object : ObjectParts) (d : Option NameParts) → KnowsIn s w txn name e
     → page ≡ name.page → IsNobody (is_in_way false s.locks.held txn page) → object_at (frame_at s.frames name.page).current name.slot ≡ Some object → field < OBJECT_FIELDS
     → get_or object.refs field d ≡ field_seen w txn name field
-read_field s w txn e name page field object d ready known is nobody found low =
-    let o = open_in s w txn e ready known.found in
-    let there = known_there s w txn e name o known.known in
-    let same = same_object object there.object (object_at (frame_at s.frames name.page).current name.slot) found (read_object s w txn e name page o known.known is nobody) in
+read_field s w txn e name page field object d knows is nobody found low =
+    let o = open_in s w txn e knows.ready knows.known.found in
+    let there = known_there s w txn e name o knows.known.known in
+    let same = same_object object there.object (object_at (frame_at s.frames name.page).current name.slot) found (read_object s w txn e name page o knows.known.known is nobody) in
     let fields : length there.object.refs ≡ OBJECT_FIELDS = there_fields w o.of name there o.ready.stands.fields in
     let within : field < length there.object.refs = omega arith in
     ap (λ (x : ObjectParts). get_or x.refs field d) same
     ∙ (sym (ap (λ x. unwrap_or x None) (slice_get-get_or there.object.refs field d within))
-    ∙ ap (option_and_then (λ (x : ObjectParts). unwrap_or (slice_get x.refs field) None)) (sym (seen_object s w txn e name o known.known)))
+    ∙ ap (option_and_then (λ (x : ObjectParts). unwrap_or (slice_get x.refs field) None)) (sym (seen_object s w txn e name o knows.known.known)))
 
 -- ---- the causes
 
--- past the name, and the field of a get
-pub number_causes : (s : TransactionsParts) (w : World) (txn : ℕ) (name : NameParts) (page : ℕ) (why : Option Refusal) → IsReady s w → page ≡ name.page → FirstMet s (name_causes txn name) None
-    → first_met (busy_to_read w txn page ∷ []) ≡ why → first_refusal w (Number txn name) nothing ≡ why
-number_causes s w txn name page why ready is named read =
-    causes_before (name_causes txn name w) (busy_to_read w txn name.page ∷ []) None (named w ready)
-    ∙ subst (λ p. first_met (busy_to_read w txn p ∷ []) ≡ why) is read
+pub number_causes : (w : World) (txn : ℕ) (name : NameParts) (page : ℕ) (why : Option Refusal) → page ≡ name.page
+    → first_met (name_causes txn name w) ≡ None → first_met (busy_to_read w txn page ∷ []) ≡ why → first_refusal w (Number txn name) nothing ≡ why
+number_causes w txn name page why is named reading =
+    causes_before (name_causes txn name w) (busy_to_read w txn name.page ∷ []) None named ∙ subst (λ p. first_met (busy_to_read w txn p ∷ []) ≡ why) is reading
 
--- what is read comes last
+-- the cause of a get that comes last, once the target is seen
 abbrev pub seen_causes : ℕ → NameParts → ℕ → World → List (Option Refusal)
 seen_causes txn name field w = knows_too_many_for w txn (field_seen w txn name field) ∷ []
 
-pub get_causes : (s : TransactionsParts) (w : World) (txn : ℕ) (name : NameParts) (field page : ℕ) (why : Option Refusal) → IsReady s w → page ≡ name.page
-    → FirstMet s (name_causes txn name) None → FirstMet s (field_causes name field) None → first_met (busy_to_read w txn page ∷ seen_causes txn name field w) ≡ why
+pub get_causes : (w : World) (txn : ℕ) (name : NameParts) (field page : ℕ) (why : Option Refusal) → page ≡ name.page
+    → first_met (name_causes txn name w) ≡ None → first_met (field_causes name field w) ≡ None → first_met (busy_to_read w txn page ∷ seen_causes txn name field w) ≡ why
     → first_refusal w (Get txn name field) nothing ≡ why
-get_causes s w txn name field page why ready is named low read =
-    causes_before (name_causes txn name w) (field_causes name field w ++ busy_to_read w txn name.page ∷ seen_causes txn name field w) None (named w ready)
-    ∙ (causes_before (field_causes name field w) (busy_to_read w txn name.page ∷ seen_causes txn name field w) None (low w ready)
-    ∙ subst (λ p. first_met (busy_to_read w txn p ∷ seen_causes txn name field w) ≡ why) is read)
+get_causes w txn name field page why is named low reading =
+    causes_before (name_causes txn name w) (field_causes name field w ++ busy_to_read w txn name.page ∷ seen_causes txn name field w) None named
+    ∙ (causes_before (field_causes name field w) (busy_to_read w txn name.page ∷ seen_causes txn name field w) None low
+    ∙ subst (λ p. first_met (busy_to_read w txn p ∷ seen_causes txn name field w) ≡ why) is reading)
 
 -- where the target fits, or doesn't
-pub is_full_to_get : (s : TransactionsParts) (w : World) (txn : ℕ) (e : OpenParts) (name : NameParts) (field page : ℕ) (target : Option NameParts) (b : Bool) → IsReady s w → IsKnownTo s txn name e
+pub is_full_to_get : (s : TransactionsParts) (w : World) (txn : ℕ) (e : OpenParts) (name : NameParts) (field page : ℕ) (target : Option NameParts) (b : Bool) → KnowsIn s w txn name e
     → IsNobody (is_in_way false s.locks.held txn page) → target ≡ field_seen w txn name field → is_full_for e.known target ≡ b
     → first_met (busy_to_read w txn page ∷ seen_causes txn name field w) ≡ when b KnowsTooMany
-is_full_to_get s w txn e name field page target b ready known nobody seen full =
-    may_read s w txn page (seen_causes txn name field w) ready nobody
-    ∙ (full_for_by s w txn e (field_seen w txn name field) b [] (open_in s w txn e ready known.found) (subst (λ x. is_full_for e.known x ≡ b) seen full) ∙ alone b)
+is_full_to_get s w txn e name field page target b knows nobody seen full =
+    may_read s w txn page (seen_causes txn name field w) knows.ready nobody
+    ∙ (full_for_by s w txn e (field_seen w txn name field) b [] (open_in s w txn e knows.ready knows.known.found) (subst (λ x. is_full_for e.known x ≡ b) seen full) ∙ alone b)
   where
     alone : (b : Bool) → first_met (when b KnowsTooMany ∷ []) ≡ when b KnowsTooMany
     alone true = refl
@@ -130,9 +136,9 @@ number_here s new w txn e page o same run = record {
 }
 
 -- all stands for the world after a number was read
-pub number_stands : (s new : TransactionsParts) (w : World) (txn : ℕ) (e : OpenParts) (name : NameParts) (page : ℕ) → IsReady s w → IsKnownTo s txn name e → page ≡ name.page → new.table ≡ s.table → HasRead s new txn page
+pub number_stands : (s new : TransactionsParts) (w : World) (txn : ℕ) (e : OpenParts) (name : NameParts) (page : ℕ) → KnowsIn s w txn name e → page ≡ name.page → new.table ≡ s.table → HasRead s new txn page
     → Stands new (with_transaction w txn (reads_page name.page))
-number_stands s new w txn e name page ready known is same run = subst (λ p. Stands new (with_transaction w txn (reads_page p))) is (number_here s new w txn e page (open_in s w txn e ready known.found) same run)
+number_stands s new w txn e name page knows is same run = subst (λ p. Stands new (with_transaction w txn (reads_page p))) is (number_here s new w txn e page (open_in s w txn e knows.ready knows.known.found) same run)
 
 entry_gets : (e f : OpenParts) (t : Transaction) (target : Option NameParts) (page : ℕ) → IsEntry e t → NotesTarget target e f
     → IsEntry f (reads_page page (record t { known = with_target target t.known }))
@@ -154,9 +160,9 @@ get_here s new w txn e page target o notes run = record {
 }
 
 -- all stands for the world after a reference was got
-pub get_stands : (s new : TransactionsParts) (w : World) (txn : ℕ) (e : OpenParts) (name : NameParts) (field page : ℕ) (target : Option NameParts) → IsReady s w → IsKnownTo s txn name e → page ≡ name.page
+pub get_stands : (s new : TransactionsParts) (w : World) (txn : ℕ) (e : OpenParts) (name : NameParts) (field page : ℕ) (target : Option NameParts) → KnowsIn s w txn name e → page ≡ name.page
     → target ≡ field_seen w txn name field → ChangesEntry (NotesTarget target) txn s.table new.table → HasRead s new txn page
     → Stands new (with_transaction w txn (got name.page (field_seen w txn name field)))
-get_stands s new w txn e name field page target ready known is seen notes run =
+get_stands s new w txn e name field page target knows is seen notes run =
     subst (λ p. Stands new (with_transaction w txn (got p (field_seen w txn name field)))) is
-    (subst (λ x. Stands new (with_transaction w txn (got page x))) seen (get_here s new w txn e page target (open_in s w txn e ready known.found) notes run))
+    (subst (λ x. Stands new (with_transaction w txn (got page x))) seen (get_here s new w txn e page target (open_in s w txn e knows.ready knows.known.found) notes run))

@@ -18,7 +18,7 @@ use Rattle.page_buffer.specs.declared.frame.Frame.{Frame}
 use Rattle.page_locks.specs.Holding.{is_in_way, IsNobody, AddsExclusive}
 use Rattle.transactions.specs.Tables.{OpenParts, knows_target, HaveSameNames, ChangesEntry, NotesPage}
 use Rattle.transactions.specs.Standing.{TransactionsParts, image_in, IsEntry, AreFramesOf, IsReady, Stands}
-use Rattle.transactions.specs.Checks.{FirstMet, name_causes, field_causes, write_causes, IsKnownTo, MayWrite, TakesPage}
+use Rattle.transactions.specs.Checks.{name_causes, field_causes, write_causes, IsKnownTo, MayWrite, TakesPage}
 use Rattle.transactions.proofs.Viewed.{written_name}
 use Rattle.transactions.proofs.Seen.{there_fields}
 use Rattle.transactions.proofs.Shown.{length-shown}
@@ -69,20 +69,19 @@ taken_slot s new view w txn e name page slot ready known may page_is slot_is sam
 
 -- ---- the causes of a put and of a set: past the names and the field, those of writing the page
 
-pub put_causes : (s : TransactionsParts) (w : World) (txn : ℕ) (name : NameParts) (value page : ℕ) (why : Option Refusal) → IsReady s w → page ≡ name.page
-    → FirstMet s (name_causes txn name) None → FirstMet s (write_causes txn page) why → first_refusal w (Put txn name value) nothing ≡ why
-put_causes s w txn name value page why ready is named written =
-    causes_before (name_causes txn name w) (write_causes txn name.page w) None (named w ready)
-    ∙ subst (λ p. first_met (write_causes txn p w) ≡ why) is (written w ready)
+pub put_causes : (w : World) (txn : ℕ) (name : NameParts) (value page : ℕ) (why : Option Refusal) → page ≡ name.page
+    → first_met (name_causes txn name w) ≡ None → first_met (write_causes txn page w) ≡ why → first_refusal w (Put txn name value) nothing ≡ why
+put_causes w txn name value page why is named writing =
+    causes_before (name_causes txn name w) (write_causes txn name.page w) None named ∙ subst (λ p. first_met (write_causes txn p w) ≡ why) is writing
 
-pub set_causes : (s : TransactionsParts) (w : World) (txn : ℕ) (e : OpenParts) (name : NameParts) (field : ℕ) (target : Option NameParts) (page : ℕ) (why : Option Refusal) → IsReady s w → page ≡ name.page
-    → IsKnownTo s txn name e → FirstMet s (name_causes txn name) None → knows_target e.known target ≡ true → FirstMet s (field_causes name field) None → FirstMet s (write_causes txn page) why
-    → first_refusal w (Set txn name field target) nothing ≡ why
-set_causes s w txn e name field target page why ready is known named known_target low written =
-    causes_before (name_causes txn name w) (strange_target w txn target ∷ field_causes name field w ++ write_causes txn name.page w) None (named w ready)
+pub set_causes : (s : TransactionsParts) (w : World) (txn : ℕ) (e : OpenParts) (name : NameParts) (field : ℕ) (target : Option NameParts) (page : ℕ) (why : Option Refusal) → IsReady s w
+    → IsKnownTo s txn name e → page ≡ name.page → knows_target e.known target ≡ true
+    → first_met (name_causes txn name w) ≡ None → first_met (field_causes name field w) ≡ None → first_met (write_causes txn page w) ≡ why → first_refusal w (Set txn name field target) nothing ≡ why
+set_causes s w txn e name field target page why ready known is known_target named low writing =
+    causes_before (name_causes txn name w) (strange_target w txn target ∷ field_causes name field w ++ write_causes txn name.page w) None named
     ∙ (is_known_target s w txn e target (field_causes name field w ++ write_causes txn name.page w) (open_in s w txn e ready known.found) known_target
-    ∙ (causes_before (field_causes name field w) (write_causes txn name.page w) None (low w ready)
-    ∙ subst (λ p. first_met (write_causes txn p w) ≡ why) is (written w ready)))
+    ∙ (causes_before (field_causes name field w) (write_causes txn name.page w) None low
+    ∙ subst (λ p. first_met (write_causes txn p w) ≡ why) is writing))
 
 -- ---- the write
 

@@ -16,7 +16,7 @@ returns-in_err-entry-clause-steps g c = λ w r.
 pub returns-in_err-check_write-clause-steps : goal.returns-in_err-check_write-clause-steps
 returns-in_err-check_write-clause-steps g c = λ w r.
     hands_on done_reply c.from_residual-in_err-check_write.result _ w (Put c.args.txn c.args.name c.args.value) _ refl c.from_residual-in_err-check_write.ensures.1 refl r.stands
-    (put_causes c.args.self.now w c.args.txn c.args.name c.args.value c.page-page.result _ r c.page-page.ensures.value c.in_ok-entry.ensures.causes c.in_err-check_write.ensures.causes)
+    (put_causes w c.args.txn c.args.name c.args.value c.page-page.result _ c.page-page.ensures.value (c.in_ok-entry.ensures.causes w r) (c.in_err-check_write.ensures.causes w r))
 
 pub write_number-requires-clause-slot : goal.write_number-requires-clause-slot
 write_number-requires-clause-slot g c =
@@ -30,7 +30,7 @@ write_number-requires-clause-used g c =
 
 pub returns-clause-steps : goal.returns-clause-steps
 returns-clause-steps g c = λ w r. record {
-  allowed = (put_causes c.args.self.now w c.args.txn c.args.name c.args.value c.page-page.result _ r c.page-page.ensures.value c.in_ok-entry.ensures.causes c.in_ok-check_write.ensures.causes, refl);
+  allowed = (put_causes w c.args.txn c.args.name c.args.value c.page-page.result _ c.page-page.ensures.value (c.in_ok-entry.ensures.causes w r) (c.in_ok-check_write.ensures.causes w r), refl);
   stands = write_stands _ _ _ _ w c.args.txn _ c.page-page.result c.slot.result (assign c.args.name c.args.value) r
       c.in_ok-entry.ensures.found c.in_ok-check_write.ensures.may c.page-page.ensures.value c.slot.ensures.value c.self.view_is c.take_page.ensures c.write_number.ensures.written;
 }

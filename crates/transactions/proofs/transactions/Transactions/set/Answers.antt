@@ -18,8 +18,8 @@ returns-in_err-entry-clause-steps g c = λ w r.
 pub returns-in_err-check_write-clause-steps : goal.returns-in_err-check_write-clause-steps
 returns-in_err-check_write-clause-steps g c = λ w r.
     hands_on done_reply c.from_residual-in_err-check_write.result _ w (Set c.args.txn c.args.name c.args.field c.args.target) _ refl c.from_residual-in_err-check_write.ensures.1 refl r.stands
-    (set_causes c.args.self.now w c.args.txn _ c.args.name c.args.field c.args.target c.page-page.result _ r c.page-page.ensures.value c.in_ok-entry.ensures.found
-    c.in_ok-entry.ensures.causes (sym c.if-not-knows_target.ensures) c.in_ok-check_field.ensures.causes c.in_err-check_write.ensures.causes)
+    (set_causes c.args.self.now w c.args.txn _ c.args.name c.args.field c.args.target c.page-page.result _ r c.in_ok-entry.ensures.found c.page-page.ensures.value (sym c.if-not-knows_target.ensures)
+    (c.in_ok-entry.ensures.causes w r) (c.in_ok-check_field.ensures.causes w r) (c.in_err-check_write.ensures.causes w r))
 
 pub write_ref-requires-clause-slot : goal.write_ref-requires-clause-slot
 write_ref-requires-clause-slot g c =
@@ -42,8 +42,8 @@ write_ref-requires-clause-field g c =
 pub returns-clause-steps : goal.returns-clause-steps
 returns-clause-steps g c = λ w r. record {
   allowed = (
-    set_causes c.args.self.now w c.args.txn _ c.args.name c.args.field c.args.target c.page-page.result _ r c.page-page.ensures.value c.in_ok-entry.ensures.found
-        c.in_ok-entry.ensures.causes (sym c.if-not-knows_target.ensures) c.in_ok-check_field.ensures.causes c.in_ok-check_write.ensures.causes,
+    set_causes c.args.self.now w c.args.txn _ c.args.name c.args.field c.args.target c.page-page.result _ r c.in_ok-entry.ensures.found c.page-page.ensures.value (sym c.if-not-knows_target.ensures)
+        (c.in_ok-entry.ensures.causes w r) (c.in_ok-check_field.ensures.causes w r) (c.in_ok-check_write.ensures.causes w r),
     refl,
   );
   stands = write_stands _ _ _ _ w c.args.txn _ c.page-page.result c.slot.result (link c.args.name c.args.field c.args.target) r
