@@ -6,7 +6,7 @@ use Rattle.object_graph.specs.SlotParts.{SlotParts}
 use Rattle.object_graph.specs.declared.calls.Call.TheVariants.{New}
 use Rattle.object_graph.specs.declared.calls.Reply.TheVariants.{Made}
 use Rattle.object_graph.specs.declared.calls.Refusal.{Refusal}
-use Rattle.object_graph.specs.declared.calls.Refusal.TheVariants.{KnowsTooMany, PageFull}
+use Rattle.object_graph.specs.declared.calls.Refusal.TheVariants.{PageFull}
 use Rattle.object_graph.specs.Graphs.{objects_at}
 use Rattle.object_graph.proofs.Paths.{name_of}
 use Rattle.object_graph.specs.declared.limits.TheConstants.{MOST_KNOWN}
@@ -28,7 +28,7 @@ use Rattle.transactions.proofs.Made.{IsFreePlace, free_place, new_on_page, new_o
 use Rattle.transactions.proofs.Entries.{table_changes, ChangesTwice, same_pages, same_names, same_with_page, same_with_target}
 use Rattle.transactions.proofs.LocksHeld.{locks_exclude}
 use Rattle.transactions.proofs.FramesSeen.{sees, frames_change}
-use Rattle.transactions.proofs.Opened.{IsOpened, open_in, open_lawful, page_below}
+use Rattle.transactions.proofs.Opened.{IsOpened, open_in, open_lawful}
 use Rattle.transactions.proofs.Refusals.{causes_before, is_page, full_by, nobody_wrote}
 
 -- ---- the causes
@@ -51,18 +51,18 @@ pub record MayWriteIn (s : TransactionsParts) (w : World) (txn : ℕ) (e : OpenP
   pub low : page < w.pages
   pub may : MayWrite s txn e page
 
-pub may_write_in : (s view : TransactionsParts) (w : World) (txn : ℕ) (e : OpenParts) (page : ℕ) → view ≡ s → IsReady s w → IsOpenWith s txn e → page < length view.frames → MayWrite s txn e page
+pub may_write_in : (s view : TransactionsParts) (w : World) (txn : ℕ) (e : OpenParts) (page : ℕ) → view ≡ s → IsReady s w → IsOpenWith s txn e → page < w.pages → MayWrite s txn e page
     → MayWriteIn view w txn e page
 may_write_in s view w txn e page same ready found low may =
-    subst (λ v. MayWriteIn v w txn e page) (sym same)
-    (record { ready = ready; found = found; low = page_below s w page ready (subst (λ (v : TransactionsParts). page < length v.frames) same low); may = may })
+    subst (λ v. MayWriteIn v w txn e page) (sym same) (record { ready = ready; found = found; low = low; may = may })
 
--- where as many names are known as can be, and where not
-known_causes : (s : TransactionsParts) (w : World) (txn : ℕ) (e : OpenParts) (page : ℕ) (b : Bool) → MayWriteIn s w txn e page
-    → first_met (open_causes txn w) ≡ None → first_met (write_causes txn page w) ≡ None → nat_le MOST_KNOWN (length e.known) ≡ b
-    → first_refusal w (New txn page) nothing ≡ first_met (when b KnowsTooMany ∷ page_full w txn page ∷ [])
-known_causes s w txn e page b m open_to writing full =
-    new_causes w txn page None m.low open_to writing ∙ full_by s w txn e b (page_full w txn page ∷ []) (open_in s w txn e m.ready m.found) full
+-- past these, with room for one name more, the page has a slot or not
+pub slot_causes : (s : TransactionsParts) (w : World) (txn : ℕ) (e : OpenParts) (page : ℕ) (slot : Option ℕ) → MayWriteIn s w txn e page → first_met (open_causes txn w) ≡ None
+    → first_met (write_causes txn page w) ≡ None → nat_le MOST_KNOWN (length e.known) ≡ false → free_slot w txn page ≡ slot
+    → first_refusal w (New txn page) nothing ≡ first_met (when (is_none slot) (PageFull page) ∷ [])
+slot_causes s w txn e page slot m open_to writing spare is =
+    new_causes w txn page None m.low open_to writing
+    ∙ (full_by s w txn e false (page_full w txn page ∷ []) (open_in s w txn e m.ready m.found) spare ∙ ap (λ x. first_met (when (is_none x) (PageFull page) ∷ [])) is)
 
 -- ---- the page as it is seen
 
@@ -87,18 +87,6 @@ no_slot s w txn e page m full =
     let count = slots_seen w o.of page (frame_at s.frames page).current image in
     let within : slot < length (frame_at s.frames page).current.slots = subst (λ n. slot < n) (sym count) lt in
     sym (ap has_room (slot_seen w o.of page slot (frame_at s.frames page).current image lt)) ∙ full slot within)
-
--- as many names are known as can be
-pub create_knowing : (s : TransactionsParts) (w : World) (txn : ℕ) (e : OpenParts) (page : ℕ) → MayWriteIn s w txn e page → first_met (open_causes txn w) ≡ None → first_met (write_causes txn page w) ≡ None
-    → nat_le MOST_KNOWN (length e.known) ≡ true → first_refusal w (New txn page) nothing ≡ Some KnowsTooMany
-create_knowing s w txn e page m open_to writing full = known_causes s w txn e page true m open_to writing full
-
--- they aren't, and the page has a slot or not
-pub slot_causes : (s : TransactionsParts) (w : World) (txn : ℕ) (e : OpenParts) (page : ℕ) (slot : Option ℕ) → MayWriteIn s w txn e page → first_met (open_causes txn w) ≡ None
-    → first_met (write_causes txn page w) ≡ None → nat_le MOST_KNOWN (length e.known) ≡ false → free_slot w txn page ≡ slot
-    → first_refusal w (New txn page) nothing ≡ first_met (when (is_none slot) (PageFull page) ∷ [])
-slot_causes s w txn e page slot m open_to writing spare is =
-    known_causes s w txn e page false m open_to writing spare ∙ ap (λ x. first_met (when (is_none x) (PageFull page) ∷ [])) is
 
 -- ---- the new object
 

@@ -111,7 +111,7 @@ wrote_within s w txn e page o h =
     omega arith
 
 -- a page that has a frame is one of the store
-pub page_below : (s : TransactionsParts) (w : World) (page : ℕ) → IsReady s w → page < length s.frames → page < w.pages
-page_below s w page ready low =
-    let n = ready.stands.frames.count in
+pub page_below : (s view : TransactionsParts) (w : World) (page : ℕ) → view ≡ s → IsReady s w → page < length view.frames → page < w.pages
+page_below s view w page same ready low =
+    let n = (subst (λ v. IsReady v w) (sym same) ready).stands.frames.count in
     omega arith
