@@ -1,11 +1,12 @@
 //! Lines of scripts.
-ghost use Rattle.std.specs.Prelude.{◌≡◌, ◌<◌, ◌≤◌, IfOk, IfErr, Ok, true, false, length};
+ghost use Rattle.std.specs.Prelude.{◌≡◌, ◌<◌, ◌≤◌, ℕ, IfOk, IfErr, Ok, Some, true, false, length};
 ghost use Rattle.script_lang.specs.declared.line.Line.{Line as AnyLine};
 ghost use Rattle.script_lang.specs.declared.line.LaneLine.{LaneLine as AnyLaneLine};
 ghost use Rattle.script_lang.specs.Script.{BeginsNote, Says, SaysInLane, Asks, AsksInLane, InScripts, InLanes, IsFirstWrong, IsBadAt};
 
 use crate::reader::Reader;
 use crate::table::line_of;
+use crate::words::few_in;
 use object_graph::Call;
 
 /// How many bytes a line may have (FORMATS.md, "Script lines").
@@ -105,6 +106,17 @@ pub fn read_lane_line(bytes: &[u8]) -> Result<LaneLine, BadLine>
         });
     }
     read_lane_words(bytes)
+}
+
+/// The lane of which a line for lanes is. Of one that says nothing any lane may come, or none: its first
+/// word alone is read.
+pub fn lane_of(bytes: &[u8]) -> Option<u32>
+    ensures { (lane : ℕ) (line : AnyLine) → 0 < lane → SaysInLane bytes.now lane line → result ≡ Some lane }
+{
+    match few_in(bytes) {
+        Some((lane, _)) => Some(lane),
+        None => None,
+    }
 }
 
 // What a line for lanes that isn't a note says.

@@ -1,6 +1,7 @@
 //! One lane of a script, and all of them beside each other.
-ghost use Rattle.std.specs.Prelude.{◌≡◌, ◌<◌, ◌&&◌, [], ◌∷◌};
-ghost use Rattle.script_lang.specs.Script.{lines_of};
+ghost use Rattle.std.specs.Prelude.{◌≡◌, ◌≢◌, ◌<◌, ◌&&◌, [], ◌∷◌, false};
+ghost use Rattle.script_lang.specs.Script.{lines_of, SaysInLane};
+ghost use Rattle.script_lang.specs.declared.line.LaneLine.{LaneLine as AnyLaneLine};
 ghost use Rattle.store_lanes.specs.Lanes.{IsRun, LanesRan, LineRan, LineServed};
 ghost use Rattle.store_lanes.specs.Owned.{SameSeat};
 ghost use Rattle.store_lanes.specs.Served.{without_bool};
@@ -9,7 +10,7 @@ use crate::collect::collect;
 use crate::step::step;
 use disk_trait::{Disk, Gate};
 use object_graph::Memory;
-use script_lang::{LaneLine, Line, next_line, read_lane_line};
+use script_lang::{LaneLine, Line, lane_of, next_line, read_lane_line};
 use std::alloc::Global;
 use std::sync::Wait;
 use std::thread::{Threads, join};
@@ -48,6 +49,18 @@ fn without_value(ran: Result<bool, Memory>) -> Result<(), Memory>
     ran.map(|_| ())
 }
 
+/// Whether a line can be one of the lane, by its first word.
+#[inline(always)]
+fn can_be_of(bytes: &[u8], lane: u32) -> bool
+    requires { 0 < lane }
+    ensures { result ≡ false → (said : AnyLaneLine) → SaysInLane bytes.now said.lane said.line → said.lane ≢ lane }
+{
+    match lane_of(bytes) {
+        Some(of) => of == lane,
+        None => false,
+    }
+}
+
 /// Runs a line, where it is one of the lane, behind the gate. Answers whether it was.
 fn run_line<R: Threads + Wait + Sync, D: Disk, G: Gate>(
     rt: &R,
@@ -65,6 +78,9 @@ fn run_line<R: Threads + Wait + Sync, D: Disk, G: Gate>(
     ensures ran { LineRan D.Disk desk.now.value.start lane bytes.now seat.old seat.new result }
     ensures same { SameSeat seat.old seat.new }
 {
+    if !can_be_of(bytes, lane) {
+        return Ok(false);
+    }
     let Ok(LaneLine { lane: of, line }) = read_lane_line(bytes) else {
         return Ok(false);
     };
