@@ -22,6 +22,7 @@ use std::alloc::Global;
 use std::sync::ledger::Ledger;
 
 /// One call on the cut, and its reply.
+#[inline(never)]
 pub fn call_cut<D: Disk, L: Ledger>(
     store: &Store<D>,
     held: &mut Held,
@@ -66,6 +67,7 @@ fn is_on_cut(call: &Call) -> bool
 }
 
 /// One call, and its reply.
+#[inline(always)]
 pub fn answer<D: Disk, L: Ledger>(
     store: &mut Store<D>,
     held: &mut Held,

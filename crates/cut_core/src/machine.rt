@@ -130,6 +130,7 @@ impl<D: Disk> Core<D> {
 
     /// One call, and its reply. After a refusal the store is as before, but for a disk fault: from
     /// then on it is broken, and the commit or the sweep is in doubt.
+    #[inline(always)]
     pub fn call<L: Ledger>(&mut self, call: Call, steps: &mut Steps<L>) -> Reply
         requires { IsBuilt call }
 

@@ -36,6 +36,7 @@ impl<D: Disk> Store<D> {
     ghost use Rattle.cut_core.specs.Touched.{TouchesWell};
 
     /// One call, and its reply.
+    #[inline(always)]
     pub fn call<L: Ledger>(&mut self, held: &mut Held, call: &Call, steps: &mut Steps<L>) -> Reply
         requires built { IsOfStore call.now }
         requires stands { (w : World) × Stands D.Disk self.old w × Holds held.old w }
@@ -65,6 +66,7 @@ impl<D: Disk> Store<D> {
 
     /// Commits what a transaction wrote: a record of its pages is written to the journal, and then
     /// they are settled.
+    #[inline(never)]
     fn commit<L: Ledger>(&mut self, held: &mut Held, txn: u32, steps: &mut Steps<L>) -> Reply
         requires sound { self.old.broken ≡ None }
         requires stands { (w : World) × Stands D.Disk self.old w × Holds held.old w }

@@ -108,6 +108,7 @@ fn stage_sweep<L: Ledger>(
 impl<D: Disk> Store<D> {
     /// Sweeps a page of the cut: its doomed objects are freed. Where none is doomed the disk isn't
     /// called.
+    #[inline(never)]
     pub fn sweep<L: Ledger>(&mut self, held: &mut Held, page: u32, steps: &mut Steps<L>) -> Reply
         requires sound { self.old.broken ≡ None }
         requires stands { (w : World) × Stands D.Disk self.old w × Holds held.old w }

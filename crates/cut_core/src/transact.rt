@@ -10,6 +10,7 @@ use std::sync::ledger::Ledger;
 use transactions::Transactions;
 
 /// One call of an open transaction that commits nothing, and its reply.
+#[inline(never)]
 pub fn transact<L: Ledger>(
     transactions: &mut Transactions,
     call: &Call,

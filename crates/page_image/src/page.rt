@@ -116,6 +116,7 @@ impl Page {
     }
 
     /// The object in a slot, if there is one.
+    #[inline(always)]
     pub fn object(&self, slot: u16) -> Option<Object>
         ensures { result ≡ object_at self.now slot }
     {

@@ -47,6 +47,7 @@ fn name_at(number: u64) -> Name
 }
 
 /// The reference that a number stands for.
+#[inline(always)]
 fn reference_at(number: u64) -> Option<Name>
     requires { IsReference (reference_of number) }
     ensures { result ≡ reference_of number }
@@ -59,6 +60,7 @@ fn reference_at(number: u64) -> Option<Name>
 }
 
 /// The object in a slot of a page.
+#[inline(always)]
 pub(crate) fn object_in(page: u32, at: u16, slot: &[u8]) -> Option<Object>
     requires page { page < MOST_PAGES }
     requires at { at < MOST_SLOTS }

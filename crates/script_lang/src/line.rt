@@ -39,6 +39,7 @@ pub struct BadLine {
 }
 
 /// What a line of a script says, without the byte that ends it.
+#[inline(always)]
 pub fn read_line(bytes: &[u8]) -> Result<Line, BadLine>
     ensures found { IfOk result (Says bytes.now) }
     ensures only { (line : AnyLine) → Says bytes.now line → result ≡ Ok line }
@@ -75,6 +76,7 @@ fn is_note(bytes: &[u8]) -> bool
 }
 
 // What a line that isn't a note says.
+#[inline(always)]
 fn read_words(bytes: &[u8]) -> Result<Line, BadLine>
     requires { length bytes.now ≤ LINE_LIMIT }
     ensures found { IfOk result (Asks bytes.now) }
@@ -110,6 +112,7 @@ pub fn read_lane_line(bytes: &[u8]) -> Result<LaneLine, BadLine>
 
 /// The lane of which a line for lanes is. Of one that says nothing any lane may come, or none: its first
 /// word alone is read.
+#[inline(always)]
 pub fn lane_of(bytes: &[u8]) -> Option<u32>
     ensures { (lane : ℕ) (line : AnyLine) → 0 < lane → SaysInLane bytes.now lane line → result ≡ Some lane }
 {

@@ -131,6 +131,7 @@ impl<'a> Reader<'a> {
     }
 
     /// The next word, and what follows it.
+    #[inline(always)]
     pub fn next(&self) -> Option<(&'a [u8], Option<&'a [u8]>)>
         ensures word { option_map (λ p. p.0.now) result ≡ next_word self.now }
         ensures rest { IfSome result (λ p. option_map (λ r. r.now) p.1 ≡ (word_at self.now.left).1) }
@@ -145,6 +146,7 @@ impl<'a> Reader<'a> {
     }
 
     /// A reader behind a word.
+    #[inline(always)]
     pub fn behind(rest: Option<&'a [u8]>) -> Reader<'a>
         ensures { result ≡ moved_to (option_map (λ r. r.now) rest.entry) }
     {
@@ -163,6 +165,7 @@ impl<'a> Reader<'a> {
     }
 
     /// Whether the line ended with its last word, and else the place where the reader stands.
+    #[inline(always)]
     pub fn end(&self, line: &[u8]) -> Result<(), BadLine>
         requires { length line.now ≤ LINE_LIMIT }
         ensures done { IfOk result (λ _. is_done self.now ≡ true) }
@@ -179,6 +182,7 @@ impl<'a> Reader<'a> {
     }
 
     // Goes behind a word.
+    #[inline(always)]
     fn go_to(&mut self, rest: Option<&'a [u8]>)
         ensures { self.new ≡ moved_to (option_map (λ r. r.now) rest.entry) }
     {

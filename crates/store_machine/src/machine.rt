@@ -55,6 +55,7 @@ impl<D: Disk> Machine<D> {
 
     /// One call of a script, and its reply. Marking is done by threads; where it finds no memory, the
     /// closed cut is kept and can be marked again.
+    #[inline(always)]
     pub fn answer<T: Threads + Sync, L: Ledger>(
         &mut self,
         threads: &T,
@@ -73,6 +74,7 @@ impl<D: Disk> Machine<D> {
     }
 
     /// A call that the core answers by itself.
+    #[inline(always)]
     fn call<L: Ledger>(&mut self, call: Call, steps: &mut Steps<L>) -> Reply
         requires { IsBuilt call }
         ensures { Answered D.Disk self.old self.new call result }
@@ -85,6 +87,7 @@ impl<D: Disk> Machine<D> {
     }
 
     /// Closes the cut, and keeps it.
+    #[inline(never)]
     fn close(&mut self) -> Reply
         ensures { Answered D.Disk self.old self.new Close result }
     {
@@ -100,6 +103,7 @@ impl<D: Disk> Machine<D> {
     }
 
     /// Marks the closed cut, which then isn't kept any more.
+    #[inline(never)]
     fn mark<T: Threads + Sync>(&mut self, threads: &T, workers: u32) -> Reply
         requires { AreWorkers workers }
         ensures { Answered D.Disk self.old self.new (Mark workers) result }
@@ -117,6 +121,7 @@ impl<D: Disk> Machine<D> {
     }
 
     /// Opens the store again. No cut is left then.
+    #[inline(never)]
     fn reopen(&mut self) -> Reply
         ensures { Answered D.Disk self.old self.new Reopen result }
     {

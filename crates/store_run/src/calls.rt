@@ -20,6 +20,7 @@ use store_model::is_refused;
 pub const REPLY_ROOM: usize = 256;
 
 /// A reply's line, in place of what the buffer held.
+#[inline(always)]
 fn print_line(reply: Reply, buffer: &mut Vec<u8>)
     requires { REPLY_ROOM ≤ vec_capacity buffer.old }
     ensures text { buffer.new.items ≡ reply_text reply ++ 10 ∷ [] }
@@ -31,6 +32,7 @@ fn print_line(reply: Reply, buffer: &mut Vec<u8>)
 }
 
 /// Answers a call, and writes its reply. Tells whether the call was refused.
+#[inline(always)]
 pub fn run_call<T: Threads + Sync, D: Disk, K: Sink, L: Ledger>(
     threads: &T,
     core: &mut Machine<D>,
@@ -57,6 +59,7 @@ pub fn run_call<T: Threads + Sync, D: Disk, K: Sink, L: Ledger>(
 
 /// Answers the calls of a collection in turn, up to the first that is refused. Each reply is written
 /// before the next call.
+#[inline(never)]
 pub fn run_collection<T: Threads + Sync, D: Disk, K: Sink, L: Ledger>(
     threads: &T,
     core: &mut Machine<D>,

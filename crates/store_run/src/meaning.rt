@@ -6,6 +6,7 @@ ghost use Rattle.store_run.specs.BadLines.{IsBad};
 use script_lang::{Line, read_line};
 
 /// What a line means, or the column in which it is bad.
+#[inline(always)]
 pub fn meaning_of(line: &[u8]) -> Result<Line, u32>
     ensures found { IfOk result (Says line.now) }
     ensures bad { IfErr result (IsBad line.now) }

@@ -17,6 +17,7 @@ use std::thread::Threads;
 use store_machine::Machine;
 
 /// Runs the line of this number, and writes its replies.
+#[inline(always)]
 fn run_line<T: Threads + Sync, D: Disk, K: Sink, L: Ledger>(
     threads: &T,
     core: &mut Machine<D>,
@@ -132,6 +133,7 @@ fn ended<D: Disk>(core: &Machine<D>) -> Status
 }
 
 /// Runs a last line that lacks its end, if there is one.
+#[inline(never)]
 fn run_end<T: Threads + Sync, D: Disk, K: Sink, L: Ledger>(
     threads: &T,
     core: &mut Machine<D>,

@@ -7,6 +7,7 @@ ghost use Rattle.store_run.specs.Writing.{AppendsFront};
 use disk_trait::{Failed, Sink};
 
 /// Writes all of a text, unless the sink fails.
+#[inline(always)]
 pub fn write_all<K: Sink>(sink: &mut K, bytes: &[u8]) -> Result<(), Failed>
     ensures written { MatchResult result (λ _. Appends (K.held sink.old) (K.held sink.new) bytes.now) (λ _. AppendsFront (K.held sink.old) (K.held sink.new) bytes.now) }
     ensures cause { HasCause (K.faults sink.old) (K.faults sink.new) result }

@@ -82,6 +82,7 @@ impl Table {
     }
 
     /// Notes a page as written by a transaction.
+    #[inline(always)]
     pub fn note_page(&mut self, txn: u32, page: u32)
         requires { (e : OpenParts) → entry_of self.old txn ≡ Some e → is_wide e.written page ≡ false }
         ensures { ChangesEntry (NotesPage page) txn self.old self.new }
@@ -92,6 +93,7 @@ impl Table {
     }
 
     /// Notes a name that was answered as known to a transaction.
+    #[inline(always)]
     pub fn note_target(&mut self, txn: u32, target: &Option<Name>)
         requires { (e : OpenParts) → entry_of self.old txn ≡ Some e → is_full_for e.known target.now ≡ false }
         ensures { ChangesEntry (NotesTarget target.now) txn self.old self.new }
