@@ -2,8 +2,9 @@
 use Rattle.std.proofs.Common.{◌≡◌, ℕ, ◌+◌, Bool, true, false, ◌||◌, ◌==◌, cond, List, [], ◌∷◌, map, reverse, length, Option, Some, None, refl, sym, subst, ap, ◌∙◌, inl, inr, arith, nat_eq, not, filter}
 use Rattle.std.proofs.lemmas.Bool.{cases_Bool, cases_eq, eq-eqb, ne_eqb, eqb-true}
 use Rattle.std.proofs.lemmas.Map.Keys.{IsDistinct-head, IsDistinct-tail}
-use Rattle.std.specs.List.{AllByRecursion, IsDistinct}
-use Rattle.std.specs.Map.{keys_of, remove_entry}
+use Rattle.std.specs.List.{AllByRecursion, IsDistinct, slice_get}
+use Rattle.std.specs.Option.{IsSomeAnd}
+use Rattle.std.specs.Map.{keys_of, lookup, remove_entry}
 use Rattle.object_graph.specs.NameParts.{NameParts}
 use Rattle.object_graph.specs.Names.{name_eq}
 use Rattle.object_graph.specs.Graphs.{has_name}
@@ -13,6 +14,7 @@ use Rattle.store_model.specs.Causes.{has_page}
 use Rattle.store_model.specs.Steps.{with_page, with_name, with_target, with_transaction}
 use Rattle.transactions.specs.Tables.{OpenParts, Entries, entry_of, ChangesEntry, HaveSamePages, HaveSameNames}
 use Rattle.transactions.specs.Standing.{numbers_of, IsEntry, AreAlike, IsTable}
+use Rattle.indexmap.specs.Layout.{set_value_at}
 use Rattle.transactions.proofs.Numbers.{KeepsNumber, find-with_same, find-with_other}
 
 -- ---- lists of pages and of names
@@ -168,3 +170,29 @@ one_taken_out txn (e ∷ es) apart = by_test (nat_eq txn e.0) refl (one_taken_ou
         others_stay txn es
         (subst (λ (n : ℕ). AllByRecursion (λ number. nat_eq n number ≡ false) (keys_of es)) (sym (eqb-true txn e.0 is)) (IsDistinct-head nat_eq e.0 (keys_of es) apart))
     by_test false is rest = ap (λ (l : Entries). e ∷ l) rest
+
+-- the oldest entry stands first, and is changed there
+abbrev pub IsOldest : ℕ → Entries → Type 0
+IsOldest txn table = IsSomeAnd (slice_get table 0) (λ e. e.0 ≡ txn)
+
+abbrev pub first_entry : Entries → Option OpenParts
+first_entry table = slice_get (map (λ e. e.1) table) 0
+
+pub oldest_there : (txn : ℕ) (table : Entries) → IsOldest txn table → None ≡ first_entry table → ⊥
+oldest_there txn [] is none = is
+oldest_there txn (e ∷ es) is none = cc
+
+pub oldest_found : (txn : ℕ) (table : Entries) (v : OpenParts) → IsOldest txn table → Some v ≡ first_entry table → entry_of table txn ≡ Some v
+oldest_found txn [] v is at = absurd is
+oldest_found txn (e ∷ es) v is at = ap (λ b. cond b (Some e.1) (lookup (nat_eq txn) es)) (eq-eqb txn e.0 (sym is)) ∙ sym at
+
+pub oldest_changes : (how : OpenParts → OpenParts → Type 0) (txn : ℕ) (old : Entries) (v w : OpenParts) → IsOldest txn old → Some v ≡ first_entry old → how v w → ChangesEntry how txn old (set_value_at old 0 w)
+oldest_changes how txn [] v w is at h = absurd is
+oldest_changes how txn (e ∷ es) v w is at h = record {
+  numbers = refl;
+  others = λ other ne. let apart : nat_eq other e.0 ≡ false = ne_eqb other e.0 (λ same. ne (same ∙ is)) in rw apart refl;
+  changed = λ f found.
+      let both : ◌≡◌ {A = Option OpenParts} (Some v) (Some f) = sym (oldest_found txn (e ∷ es) v is at) ∙ found in
+      let same : v ≡ f = cc in
+      (w, ap (λ b. cond b (Some w) (lookup (nat_eq txn) es)) (eq-eqb txn e.0 (sym is)), subst (λ x. how x w) same h);
+}

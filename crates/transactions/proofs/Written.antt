@@ -1,11 +1,12 @@
 -- Pages written, ascending.
 use Rattle.std.proofs.Common.{◌≡◌, ℕ, ◌+◌, ◌-◌, ◌<◌, ◌≤◌, ◌==◌, ◌≢◌, if◌then◌else◌, Bool, true, false, List, ◌∷◌, length, Ok, Err, Result, MatchResult, sym, ◌∙◌, ap, arith, ◌⊎◌, inl, inr, get_or, nat_cmp}
-use Rattle.std.specs.List.{insert}
+use Rattle.std.specs.List.{insert, All}
 use Rattle.std.specs.List.Sorted.{IsBinarySearchResult}
-use Rattle.std.proofs.lemmas.Bool.{cases_eq, cases_lt, eq-eqb}
+use Rattle.std.proofs.lemmas.Bool.{cases_eq, cases_lt, eq-eqb, ne_eqb}
 use Rattle.std.proofs.lemmas.List.Edits.{get_or-insert_at, get_or-insert_below, get_or-insert_above, length-insert}
 use Rattle.std.proofs.lemmas.List.Sorted.{IsPermutation-insert, list_any-IsPermutation, searched}
-use Rattle.std.proofs.lemmas.List.Folds.{list_any_at}
+use Rattle.std.proofs.lemmas.Grind.{get_or_default_zero}
+use Rattle.std.proofs.lemmas.List.Folds.{list_any_at, list_any_none}
 use Rattle.store_model.specs.Causes.{has_page}
 use Rattle.store_model.specs.Steps.{with_page}
 use Rattle.transactions.specs.Tables.{IsAscending, IsPlaceFor, HaveSamePages}
@@ -84,10 +85,12 @@ one_more pages page here absent within = record {
     skipped : with_page page pages ≡ page ∷ pages
     skipped = ap (λ (b : Bool). if b then pages else page ∷ pages) absent
 
--- where the search ends, a page that isn't there has its place
-pub place_found : (pages : List ℕ) (page : ℕ) (r : Result ℕ ℕ) → IsAscending pages → IsBinarySearchResult (λ y. nat_cmp y page) pages r → has_page pages page ≡ false
-    → MatchResult r (λ i. ⊥) (λ i. IsPlaceFor page i pages)
-place_found pages page r up found absent = by_result r (searched pages page r found rising)
+-- where the search ends: the page is there, or its place is
+abbrev IsFound : List ℕ → ℕ → Result ℕ ℕ → Type 0
+IsFound pages page r = MatchResult r (λ i. (i < length pages) × (at pages i ≡ page)) (λ i. (i ≤ length pages) × ((k : ℕ) → k < i → at pages k < page) × ((k : ℕ) → i ≤ k → k < length pages → page < at pages k))
+
+ends : (pages : List ℕ) (page : ℕ) (r : Result ℕ ℕ) → IsAscending pages → IsBinarySearchResult (λ y. nat_cmp y page) pages r → IsFound pages page r
+ends pages page r up found = searched pages page r found rising
   where
     rising : (i j : ℕ) → i ≤ j → j < length pages → at pages i ≤ at pages j
     rising i j less within = elim (cases_eq i j) [
@@ -95,9 +98,26 @@ place_found pages page r up found absent = by_result r (searched pages page r fo
       | inr other ↦ let less1 : i < j = omega (arith, less, other) in let c = up i j less1 within in omega (arith, c)
     ]
 
-    by_result : (r : Result ℕ ℕ)
-        → MatchResult r (λ i. (i < length pages) × (at pages i ≡ page)) (λ i. (i ≤ length pages) × ((k : ℕ) → k < i → at pages k < page) × ((k : ℕ) → i ≤ k → k < length pages → page < at pages k))
-        → MatchResult r (λ i. ⊥) (λ i. IsPlaceFor page i pages)
+-- so the search tells whether the page is there
+pub is_there : (pages : List ℕ) (page : ℕ) (r : Result ℕ ℕ) → IsAscending pages → IsBinarySearchResult (λ y. nat_cmp y page) pages r → MatchResult r (λ i. true ≡ has_page pages page) (λ i. false ≡ has_page pages page)
+is_there pages page r up found = by_result r (ends pages page r up found)
+  where
+    by_result : (r : Result ℕ ℕ) → IsFound pages page r → MatchResult r (λ i. true ≡ has_page pages page) (λ i. false ≡ has_page pages page)
+    by_result (Ok i) h = sym (list_any_at (λ (p : ℕ). p == page) pages i 0 h.0 (eq-eqb (at pages i) page h.1))
+    by_result (Err i) h = sym (list_any_none (λ (p : ℕ). p == page) pages other)
+      where
+        other : All (λ (p : ℕ). (p == page) ≡ false) pages
+        other k d low = let same = get_or_default_zero pages k d low in elim (cases_lt k i) [
+          | inl less ↦ let l = h.1 k less in ne_eqb (get_or pages k d) page (λ (e : get_or pages k d ≡ page). omega (arith, l, same, e))
+          | inr more ↦ let l = h.2 k more low in ne_eqb (get_or pages k d) page (λ (e : get_or pages k d ≡ page). omega (arith, l, same, e))
+        ]
+
+-- a page that isn't there has its place
+pub place_found : (pages : List ℕ) (page : ℕ) (r : Result ℕ ℕ) → IsAscending pages → IsBinarySearchResult (λ y. nat_cmp y page) pages r → has_page pages page ≡ false
+    → MatchResult r (λ i. ⊥) (λ i. IsPlaceFor page i pages)
+place_found pages page r up found absent = by_result r (ends pages page r up found)
+  where
+    by_result : (r : Result ℕ ℕ) → IsFound pages page r → MatchResult r (λ i. ⊥) (λ i. IsPlaceFor page i pages)
     by_result (Ok i) h =
         let there : has_page pages page ≡ true = list_any_at (λ (p : ℕ). p == page) pages i 0 h.0 (eq-eqb (at pages i) page h.1) in
         cc

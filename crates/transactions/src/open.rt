@@ -92,7 +92,10 @@ impl Open {
     pub fn has_written(&self, page: u32) -> bool
         ensures { result ≡ has_page self.now.written page }
     {
-        self.written.iter().any(|written| *written == page)
+        match self.written.binary_search(&page) {
+            Ok(_) => true,
+            Err(_) => false,
+        }
     }
 
     /// As many pages are written as can be, and this isn't one of them.

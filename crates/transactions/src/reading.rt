@@ -14,6 +14,7 @@ use page_locks::Busy;
 use std::sync::ledger::Ledger;
 
 /// The object of this name in the current image of its page.
+#[inline(always)]
 fn object_seen<L: Ledger>(buffer: &Buffer, name: Name, steps: &mut Steps<L>) -> Option<Object>
     requires { name.page < length buffer.now }
     ensures object { result ≡ object_at (frame_at buffer.now name.page).current name.slot }

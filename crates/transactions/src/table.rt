@@ -1,5 +1,5 @@
 //! The table of open transactions.
-ghost use Rattle.std.specs.Prelude.{◌≡◌, ◌<◌, ◌++◌, ◌∷◌, [], false, not, filter, nat_eq, is_some, None, IfOk, OnOk, OnErr, length, option_copied};
+ghost use Rattle.std.specs.Prelude.{◌≡◌, ◌<◌, ◌++◌, ◌∷◌, [], false, not, filter, nat_eq, is_some, None, IfOk, OnOk, OnErr, length, option_copied, true, IsSomeAnd, slice_get};
 ghost use Rattle.std.specs.List.{IsDistinct};
 ghost use Rattle.std.specs.Map.{keys_of};
 ghost use Rattle.transactions.specs.Tables.{Entries, OpenParts, entry_of, fresh_entry, is_wide, is_full_for, ChangesEntry, NotesPage, NotesTarget};
@@ -49,13 +49,31 @@ impl Table {
     pub fn has(&self, txn: u32) -> bool
         ensures { result ≡ is_some (entry_of self.now txn) }
     {
-        self.entries.contains_key(&txn)
+        self.find(txn).is_some()
     }
 
+    /// The entry of a transaction. The oldest one is looked at first: often it is the only one.
+    #[inline(always)]
     pub fn find(&self, txn: u32) -> Option<&Open>
         ensures { option_copied result ≡ entry_of self.now txn }
     {
+        if let Some((number, entry)) = self.entries.get_index(0) {
+            if *number == txn {
+                return Some(entry);
+            }
+        }
         self.entries.get(&txn)
+    }
+
+    /// Whether the transaction is the oldest one.
+    #[inline(always)]
+    fn is_oldest(&self, txn: u32) -> bool
+        ensures { result ≡ true → IsSomeAnd (slice_get self.now 0) (λ e. e.0 ≡ txn) }
+    {
+        match self.entries.get_index(0) {
+            Some((number, _)) => *number == txn,
+            None => false,
+        }
     }
 
     /// Adds a transaction as it begins.
@@ -87,6 +105,12 @@ impl Table {
         requires { (e : OpenParts) → entry_of self.old txn ≡ Some e → is_wide e.written page ≡ false }
         ensures { ChangesEntry (NotesPage page) txn self.old self.new }
     {
+        if self.is_oldest(txn) {
+            if let Some(entry) = self.entries.get_index_mut(0) {
+                entry.note_page(page);
+            }
+            return;
+        }
         if let Some(entry) = self.entries.get_mut(&txn) {
             entry.note_page(page);
         }
@@ -98,6 +122,12 @@ impl Table {
         requires { (e : OpenParts) → entry_of self.old txn ≡ Some e → is_full_for e.known target.now ≡ false }
         ensures { ChangesEntry (NotesTarget target.now) txn self.old self.new }
     {
+        if self.is_oldest(txn) {
+            if let Some(entry) = self.entries.get_index_mut(0) {
+                entry.note_target(target);
+            }
+            return;
+        }
         if let Some(entry) = self.entries.get_mut(&txn) {
             entry.note_target(target);
         }
