@@ -39,9 +39,6 @@ among_right xs ys page is = ap (λ (o : Option PageParts). is_some o) (last-appe
 
 -- ---- sent home
 
-pub none_home : (file : List ℕ) → AreHome [] file file
-none_home file = record { elsewhere = differs_not (is_among []) file; homes = λ page p e. absurd cc }
-
 pub one_home : (p : PageParts) (bytes file : List ℕ) → length bytes ≡ PAGE_SIZE → page_at bytes ≡ Ok p → home_start p.number + PAGE_SIZE ≤ length file → AreHome (p ∷ []) file (written (home_start p.number) bytes file)
 one_home p bytes file long is fits = record {
   elsewhere = torn_home (is_among (p ∷ [])) p.number file (written (home_start p.number) bytes file) (among_one p)
@@ -50,18 +47,3 @@ one_home p bytes file long is fits = record {
       let same = last-one p q page e in
       ap (λ n. page_at (home_of n (written (home_start p.number) bytes file))) (sym same.0) ∙ ap page_at (home_written p.number bytes file long fits) ∙ is ∙ ap (λ (x : PageParts). Ok x) same.1;
 }
-
-module _ (xs ys : List PageParts) (a b c : List ℕ) (first : AreHome xs a b) (second : AreHome ys b c) where
-  last_home : (page : ℕ) (p : PageParts) (last : Option PageParts) → last_image ys page ≡ last → later last (last_image xs page) ≡ Some p → page_at (home_of page c) ≡ Ok p
-  last_home page p (Some q) is e = second.homes page p (is ∙ e)
-  last_home page p None is e =
-      let not_named : is_among ys page ≡ false = ap (λ (o : Option PageParts). is_some o) is in
-      ap page_at (same_home (is_among ys) b c page second.elsewhere not_named) ∙ first.homes page p e
-
-  pub home_then : AreHome (xs ++ ys) a c
-  home_then = record {
-    elsewhere = differs_then (is_among (xs ++ ys)) a b c
-        (differs_more (is_among xs) (is_among (xs ++ ys)) a b (among_left xs ys) first.elsewhere)
-        (differs_more (is_among ys) (is_among (xs ++ ys)) b c (among_right xs ys) second.elsewhere);
-    homes = λ page p e. last_home page p (last_image ys page) refl (sym (last-append xs ys page) ∙ e);
-  }

@@ -1,5 +1,6 @@
 -- Where the images of counted records stand in a store file.
-use Rattle.std.specs.Prelude.{◌≡◌, ⊤, ℕ, ◌+◌, ◌≤◌, ◌<◌, List, [], ◌∷◌, ◌++◌, Ok}
+use Rattle.std.specs.Prelude.{◌≡◌, ⊤, ℕ, ◌+◌, ◌≤◌, ◌<◌, ◌==◌, Bool, List, [], ◌∷◌, ◌++◌, Ok}
+use Rattle.std.specs.List.{list_any}
 use Rattle.disk_trait.specs.Disk.{piece}
 use Rattle.page_image.specs.Pages.{PageParts}
 use Rattle.page_image.specs.Fields.{page_at}
@@ -21,6 +22,10 @@ places_in gate (r ∷ rs) = places_of (gate + FRAME_SIZE) r.images ++ places_in 
 pub record IsPlace (pages : ℕ) (place : ImagePlace) : Type 0 where
   pub below : place.page < pages
   pub within : place.at + PAGE_SIZE ≤ HOMES_START
+
+-- an image of this page stands at one of the places
+abbrev pub has_place : List ImagePlace → ℕ → Bool
+has_place places page = list_any (λ place. place.page == page) places
 
 -- at these places stand images of these pages
 abbrev pub StandAt : List ImagePlace → List PageParts → List ℕ → Type 0

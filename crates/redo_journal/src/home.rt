@@ -13,7 +13,7 @@ ghost use Rattle.redo_journal.specs.Replays.{is_among, is_named};
 ghost use Rattle.redo_journal.specs.Sending.{After, ChangesHomes};
 
 use crate::journal::Journal;
-use crate::places::ImagePlace;
+use crate::places::{ImagePlace, has_page};
 use crate::sizes::{HOMES_START, PAGE_SIZE};
 use disk_trait::{Disk, Failed};
 
@@ -40,7 +40,7 @@ fn copy_image<D: Disk>(disk: &mut D, from: u64, to: u64) -> Result<(), Failed>
     disk.write_at(to, &image)
 }
 
-/// Sends home the images at these places, in their order.
+/// Sends home the last image of each page at these places.
 fn send_images<D: Disk>(disk: &mut D, places: &[ImagePlace]) -> Result<(), Failed>
     requires within { All (λ place. place.at + PAGE_SIZE ≤ HOMES_START) places.now }
     requires homes { All (λ place. home_start place.page + PAGE_SIZE ≤ D.size disk.old) places.now }
@@ -54,12 +54,14 @@ fn send_images<D: Disk>(disk: &mut D, places: &[ImagePlace]) -> Result<(), Faile
 {
     for i in 0..places.len() {
         let place = places[i];
-        copy_image(disk, place.at, home_of(place.page))?;
+        if !has_page(places.split_at(i + 1).1, place.page) {
+            copy_image(disk, place.at, home_of(place.page))?;
+        }
     }
     Ok(())
 }
 
-/// Sends home the images at these places, and syncs.
+/// Sends home the last image of each page at these places, and syncs.
 fn send_and_sync<D: Disk>(disk: &mut D, places: &[ImagePlace]) -> Result<(), Failed>
     requires within { All (λ place. place.at + PAGE_SIZE ≤ HOMES_START) places.now }
     requires homes { All (λ place. home_start place.page + PAGE_SIZE ≤ D.size disk.old) places.now }
@@ -77,9 +79,10 @@ fn send_and_sync<D: Disk>(disk: &mut D, places: &[ImagePlace]) -> Result<(), Fai
 }
 
 impl Journal {
-    /// Writes the images of the counted records to the homes of their pages, in their order, and
-    /// syncs: the first two steps of a checkpoint (FORMATS.md, "Journal"). After `Failed` the homes
-    /// that a counted record names may hold any bytes.
+    /// Writes the last image of each page that a counted record names to the page's home, and syncs:
+    /// the first two steps of a checkpoint (FORMATS.md, "Journal"). The images are those that opening
+    /// and appending noted, so none of these is left out, whatever the disk reads. After `Failed` the
+    /// homes that a counted record names may hold any bytes.
     pub fn send_home<D: Disk>(&self, disk: &mut D) -> Result<(), Failed>
         requires long { store_size self.now.pages ≤ D.size disk.old }
         requires own { IfSome (D.content disk.old) (IsOn self.now) }

@@ -1,6 +1,6 @@
 //! Where the images of counted records stand.
 ghost use Rattle.std.specs.Prelude.{◌≡◌, ◌≤◌, ◌+◌, ◌*◌, ◌++◌, length, vec_capacity};
-ghost use Rattle.redo_journal.specs.Places.{places_of};
+ghost use Rattle.redo_journal.specs.Places.{has_place, places_of};
 
 use crate::sizes::{HOMES_START, IMAGE_SIZE};
 use page_image::Page;
@@ -10,6 +10,13 @@ use page_image::Page;
 pub(crate) struct ImagePlace {
     pub(crate) page: u32,
     pub(crate) at: u64,
+}
+
+/// Whether an image of this page stands at one of the places.
+pub(crate) fn has_page(places: &[ImagePlace], page: u32) -> bool
+    ensures { result ≡ has_place places.now page }
+{
+    places.iter().any(|place| place.page == page)
 }
 
 /// Notes where images stand one behind the other, the first of them with its page's number at this

@@ -111,9 +111,9 @@ struct Sent {
     left: [(Home, Home); 6],
 }
 
-/// Call 11 opens the area. Then each image is read and written: 12 to 15 for the first record, 16 and
-/// 17 for the second. Call 18 is the sync.
-const SENT: [Sent; 5] = [
+/// Call 11 opens the area. Then the last image of each page is read and written: 12 and 13 for page 0
+/// of the first record, 14 and 15 for page 1 of the second. Call 16 is the sync.
+const SENT: [Sent; 4] = [
     Sent {
         first: 12,
         last: 13,
@@ -133,31 +133,19 @@ const SENT: [Sent; 5] = [
     },
     Sent {
         first: 16,
+        last: 16,
+        left: [
+            (Zeros, Zeros),
+            (Empty, Object),
+            (Torn, Torn),
+            (Empty, Zeros),
+            (Empty, Object),
+            (Empty, Torn),
+        ],
+    },
+    Sent {
+        first: 17,
         last: 17,
-        left: [
-            (Zeros, Zeros),
-            (Empty, Empty),
-            (Torn, Torn),
-            (Empty, Zeros),
-            (Empty, Empty),
-            (Empty, Torn),
-        ],
-    },
-    Sent {
-        first: 18,
-        last: 18,
-        left: [
-            (Zeros, Zeros),
-            (Empty, Object),
-            (Torn, Torn),
-            (Empty, Zeros),
-            (Empty, Object),
-            (Empty, Torn),
-        ],
-    },
-    Sent {
-        first: 19,
-        last: 19,
         left: [(Empty, Object); 6],
     },
 ];
@@ -171,7 +159,7 @@ fn crash_after_sending(
     let alloc = rt.alloc();
     let mut disk = MemDisk::new(alloc, TWO_PAGES, vec![in alloc; call]?)?;
     two_commits(alloc, &mut disk)?;
-    assert_eq!(rt; is_sent(alloc, &mut disk)?, call == 19, "call {call}");
+    assert_eq!(rt; is_sent(alloc, &mut disk)?, call == 17, "call {call}");
     let mut disk = disk.crash(pick)?;
     assert_eq!(rt;
         opened(alloc, &mut disk, 0),
