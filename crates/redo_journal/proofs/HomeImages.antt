@@ -1,4 +1,4 @@
--- Images that are sent home one behind the other.
+-- Pages that have an image among images, and one image that is sent home.
 use Rattle.std.proofs.Common.{◌≡◌, ℕ, ◌+◌, ◌≤◌, ◌==◌, Bool, true, false, List, [], ◌∷◌, ◌++◌, length, Option, Some, None, Ok, is_some, if◌then◌else◌, refl, sym, ◌∙◌, ap, subst, arith}
 use Rattle.std.proofs.lemmas.Bool.{eq-eqb, eqb-true}
 use Rattle.disk_trait.specs.Disk.{written, Torn}
@@ -8,7 +8,7 @@ use Rattle.page_image.specs.Fields.{page_at}
 use Rattle.redo_journal.specs.Homes.{home_start, home_of, AreHome}
 use Rattle.redo_journal.specs.Replays.{later, last_image, is_among}
 use Rattle.redo_journal.proofs.LastImages.{last-append}
-use Rattle.redo_journal.proofs.HomeBytes.{torn_home, home_written, differs_not, differs_then, differs_more, same_home}
+use Rattle.redo_journal.proofs.HomeBytes.{torn_home, home_written}
 use Rattle.redo_journal.specs.declared.sizes.TheConstants.{PAGE_SIZE}
 
 -- ---- the last image of a page
