@@ -92,3 +92,19 @@ fn the_count_of_pages_has_no_bound(rt: HostRuntime) -> Result<(), Fail> {
     assert_eq!(rt; ask(&mut locks, Wish::Exclusive(2, 99_998)), None);
     Ok(())
 }
+
+#[test]
+fn one_slot_notes_two_places(rt: HostRuntime) -> Result<(), Fail> {
+    let mut locks = Locks::new(rt.alloc(), 2)?;
+    for txn in [1, 988] {
+        assert!(rt; admit(&mut locks, txn));
+    }
+    assert_eq!(rt; ask(&mut locks, Wish::Exclusive(1, 0)), None);
+    assert_eq!(rt; ask(&mut locks, Wish::Exclusive(988, 1)), None);
+    assert_eq!(rt; ask(&mut locks, Wish::Shared(988, 0)), Some(1));
+    assert_eq!(rt; ask(&mut locks, Wish::Shared(1, 1)), Some(988));
+    locks.release_all(988);
+    assert!(rt; locks.admitted(1));
+    assert_eq!(rt; ask(&mut locks, Wish::Shared(1, 1)), None);
+    Ok(())
+}
