@@ -1,23 +1,22 @@
 -- The causes of refusals, as the table and the locks show them.
 use Rattle.std.proofs.Common.{◌≡◌, ◌≢◌, ℕ, ◌<◌, ◌≤◌, Bool, true, false, not, ◌&&◌, ◌||◌, ◌==◌, List, [], ◌∷◌, ◌++◌, length, Option, Some, None, refl, sym, subst, ap, ◌∙◌, nat_le}
 use Rattle.std.specs.Option.{is_none, option_map, option_or, unwrap_or, MatchOption}
-use Rattle.std.proofs.lemmas.Bool.{eqb-true, eq-eqb, ne_eqb, and_parts, or_parts, and_from, lt-ltb, le-ltb}
+use Rattle.std.proofs.lemmas.Bool.{eqb-true, eq-eqb, ne_eqb, and_parts, or_parts, and_from, lt-ltb}
 use Rattle.object_graph.specs.NameParts.{NameParts}
 use Rattle.object_graph.specs.declared.calls.Call.{Call}
 use Rattle.object_graph.specs.declared.calls.Reply.TheVariants.{Refused}
 use Rattle.object_graph.specs.declared.calls.Refusal.{Refusal}
-use Rattle.object_graph.specs.declared.calls.Refusal.TheVariants.{NotOpen, Stranger, BadField, NoPage, Busy, TooWide, KnowsTooMany, Broken}
+use Rattle.object_graph.specs.declared.calls.Refusal.TheVariants.{NotOpen, Stranger, NoPage, Busy, TooWide, KnowsTooMany, Broken}
 use Rattle.object_graph.specs.Graphs.{has_name}
 use Rattle.object_graph.specs.declared.limits.TheConstants.{MOST_KNOWN, MOST_WRITTEN}
-use Rattle.object_graph.specs.declared.names.TheConstants.{OBJECT_FIELDS}
 use Rattle.store_model.specs.Worlds.{World, Transaction, nothing, find_transaction, transaction, fresh_transaction}
-use Rattle.store_model.specs.Causes.{first_met, first_refusal, when, holder, has_page, broken, not_open, stranger, strange_target, bad_field, no_page, busy_to_read, busy_to_write, too_wide, knows_too_many, knows_too_many_for}
+use Rattle.store_model.specs.Causes.{first_met, first_refusal, when, holder, has_page, broken, not_open, stranger, strange_target, no_page, busy_to_read, busy_to_write, too_wide, knows_too_many, knows_too_many_for}
 use Rattle.store_model.specs.Replies.{AllowsReply, is_free}
 use Rattle.page_locks.specs.Holding.{excludes, is_in_way, IsNobody, IsLeast}
 use Rattle.transactions.specs.Tables.{OpenParts, is_wide, knows_target, is_full_for}
 use Rattle.transactions.specs.Standing.{TransactionsParts, wrote, IsReady}
-use Rattle.transactions.proofs.Numbers.{transaction_found, found_in_list, found_at, holder_none, holder_some}
 use Rattle.transactions.specs.Checks.{IsOpenWith, write_causes}
+use Rattle.transactions.proofs.Numbers.{transaction_found, found_in_list, found_at, holder_none, holder_some}
 use Rattle.transactions.proofs.Opened.{IsOpened, open_in}
 
 pub refused : (w : World) (call : Call) (why : Refusal) → first_refusal w call nothing ≡ Some why → AllowsReply w call nothing (Refused why)
@@ -37,46 +36,19 @@ pub is_open : (s : TransactionsParts) (w : World) (txn : ℕ) (e : OpenParts) (r
 is_open s w txn e rest o =
     ap (λ b. first_met (option_map (λ count. Broken count) b ∷ not_open w txn ∷ rest)) o.ready.sound ∙ ap (λ t. first_met (when (is_none t) NotOpen ∷ rest)) o.found
 
-pub is_closed : (w : World) (txn : ℕ) (rest : List (Option Refusal)) → w.broken ≡ None → find_transaction w txn ≡ None
-    → first_met (broken w ∷ not_open w txn ∷ rest) ≡ Some NotOpen
-is_closed w txn rest sound closed =
-    ap (λ b. first_met (option_map (λ count. Broken count) b ∷ not_open w txn ∷ rest)) sound ∙ ap (λ t. first_met (when (is_none t) NotOpen ∷ rest)) closed
-
-stranger_by : (s : TransactionsParts) (w : World) (txn : ℕ) (e : OpenParts) (name : NameParts) (b : Bool) → IsOpened s w txn e → has_name e.known name ≡ b
-    → stranger w txn name ≡ when (not b) Stranger
-stranger_by s w txn e name b o is =
-    ap (λ (x : Transaction). when (not (has_name x.known name)) Stranger) (transaction_found w txn o.of o.found)
-    ∙ ap (λ b. when (not b) Stranger) (sym (o.entry.known.each name) ∙ is)
-
 pub is_known : (s : TransactionsParts) (w : World) (txn : ℕ) (e : OpenParts) (name : NameParts) (rest : List (Option Refusal)) → IsOpened s w txn e → has_name e.known name ≡ true
     → first_met (stranger w txn name ∷ rest) ≡ first_met rest
-is_known s w txn e name rest o is = ap (λ c. first_met (c ∷ rest)) (stranger_by s w txn e name true o is)
-
-pub is_stranger : (s : TransactionsParts) (w : World) (txn : ℕ) (e : OpenParts) (name : NameParts) (rest : List (Option Refusal)) → IsOpened s w txn e → has_name e.known name ≡ false
-    → first_met (stranger w txn name ∷ rest) ≡ Some Stranger
-is_stranger s w txn e name rest o is = ap (λ c. first_met (c ∷ rest)) (stranger_by s w txn e name false o is)
+is_known s w txn e name rest o is = ap (λ c. first_met (c ∷ rest))
+    (ap (λ (x : Transaction). when (not (has_name x.known name)) Stranger) (transaction_found w txn o.of o.found)
+    ∙ ap (λ b. when (not b) Stranger) (sym (o.entry.known.each name) ∙ is))
 
 pub is_known_target : (s : TransactionsParts) (w : World) (txn : ℕ) (e : OpenParts) (target : Option NameParts) (rest : List (Option Refusal)) → IsOpened s w txn e → knows_target e.known target ≡ true
     → first_met (strange_target w txn target ∷ rest) ≡ first_met rest
 is_known_target s w txn e None rest o is = refl
 is_known_target s w txn e (Some target) rest o is = is_known s w txn e target rest o is
 
-pub is_strange_target : (s : TransactionsParts) (w : World) (txn : ℕ) (e : OpenParts) (target : Option NameParts) (rest : List (Option Refusal)) → IsOpened s w txn e → knows_target e.known target ≡ false
-    → first_met (strange_target w txn target ∷ rest) ≡ Some Stranger
-is_strange_target s w txn e None rest o is = cc
-is_strange_target s w txn e (Some target) rest o is = is_stranger s w txn e target rest o is
-
-pub is_field : (w : World) (name : NameParts) (field : ℕ) (rest : List (Option Refusal)) → field < OBJECT_FIELDS → first_met (bad_field w name field ∷ rest) ≡ first_met rest
-is_field w name field rest low = ap (λ b. first_met (when (not b) BadField ∷ rest)) (lt-ltb field OBJECT_FIELDS low)
-
-pub is_no_field : (w : World) (name : NameParts) (field : ℕ) (rest : List (Option Refusal)) → OBJECT_FIELDS ≤ field → first_met (bad_field w name field ∷ rest) ≡ Some BadField
-is_no_field w name field rest high = ap (λ b. first_met (when (not b) BadField ∷ rest)) (le-ltb field OBJECT_FIELDS high)
-
 pub is_page : (w : World) (page : ℕ) (rest : List (Option Refusal)) → page < w.pages → first_met (no_page w page ∷ rest) ≡ first_met rest
 is_page w page rest low = ap (λ b. first_met (when (not b) NoPage ∷ rest)) (lt-ltb page w.pages low)
-
-pub is_no_page : (w : World) (page : ℕ) (rest : List (Option Refusal)) → w.pages ≤ page → first_met (no_page w page ∷ rest) ≡ Some NoPage
-is_no_page w page rest high = ap (λ b. first_met (when (not b) NoPage ∷ rest)) (le-ltb page w.pages high)
 
 pub wide_by : (s : TransactionsParts) (w : World) (txn : ℕ) (e : OpenParts) (page : ℕ) (b : Bool) (rest : List (Option Refusal)) → IsOpened s w txn e → is_wide e.written page ≡ b
     → first_met (too_wide w txn page ∷ rest) ≡ first_met (when b TooWide ∷ rest)

@@ -1,5 +1,5 @@
 -- What a put or a set does.
-use Rattle.std.proofs.Common.{◌≡◌, ℕ, ◌<◌, Bool, true, false, List, ◌∷◌, ◌++◌, length, Option, None, refl, sym, subst, ap, ◌∙◌, arith}
+use Rattle.std.proofs.Common.{◌≡◌, ℕ, ◌<◌, Bool, true, List, ◌∷◌, ◌++◌, length, Option, None, refl, sym, subst, ap, ◌∙◌, arith}
 use Rattle.object_graph.specs.declared.calls.Call.TheVariants.{Put, Set}
 use Rattle.object_graph.specs.declared.calls.Refusal.{Refusal}
 use Rattle.object_graph.specs.declared.names.TheConstants.{OBJECT_FIELDS}

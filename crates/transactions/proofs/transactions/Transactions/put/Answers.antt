@@ -1,4 +1,4 @@
-use Rattle.std.proofs.Common.{sym, refl}
+use Rattle.std.proofs.Common.{refl}
 use Rattle.object_graph.specs.declared.calls.Call.TheVariants.{Put}
 use Rattle.object_graph.specs.Replies.{done_reply}
 use Rattle.store_model.specs.Worlds.{assign}
