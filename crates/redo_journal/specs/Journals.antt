@@ -38,7 +38,7 @@ pub record IsJournal (journal : JournalParts) : Type 0 where
   pub room : IMAGE_SIZE * length journal.places ≤ journal.end
   pub staged : IfSome journal.staged (IsRecordOf journal.pages)
 
--- the journal's area on the file has its base and these records
+-- the journal's area on the file has its base and these records, whose images stand at the journal's places
 pub record HoldsFor (journal : JournalParts) (records : List RecordParts) (file : List ℕ) : Type 0 where
   pub holds : Holds (grammar journal.pages) journal.area journal.base records file
   pub end : journal.end ≡ first_gate + taken (grammar journal.pages) records
