@@ -130,6 +130,7 @@ fn follow_all(
 }
 
 /// Marks the targets of the object at a place, in one image of its page.
+#[inline(always)]
 fn follow_image(
     table: &MarkTable,
     cut: &ClosedCut,
@@ -157,6 +158,7 @@ fn follow_image(
 }
 
 /// Marks all targets of a place that the seat took, and says that it is scanned.
+#[inline(always)]
 fn scan(table: &MarkTable, cut: &ClosedCut, seat: &mut MarkSeat, list: &mut Vec<Place>, at: &Place)
     requires cut { table.now.cut ≡ cut.now }
     requires own { IsOf table.now seat.old }
