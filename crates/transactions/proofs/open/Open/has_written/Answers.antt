@@ -1,4 +1,4 @@
-use Rattle.std.proofs.Common.{◌≡◌, ℕ, true, false, Result, MatchResult, subst, ◌∙◌, ap, List, nat_cmp}
+use Rattle.std.proofs.Common.{◌≡◌, ℕ, true, false, Result, MatchResult, subst, ◌∙◌, List, nat_cmp}
 use Rattle.std.specs.List.Sorted.{IsBinarySearchResult}
 use Rattle.store_model.specs.Causes.{has_page}
 use Rattle.transactions.proofs.Written.{is_there}

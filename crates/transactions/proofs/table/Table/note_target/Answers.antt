@@ -1,5 +1,5 @@
-use Rattle.std.proofs.Common.{◌≡◌, ℕ, Option, Some, None, nat_eq, sym, ◌∙◌, subst, ap, false}
-use Rattle.transactions.specs.Tables.{Entries, OpenParts, ChangesEntry, NotesTarget}
+use Rattle.std.proofs.Common.{◌≡◌, Some, sym, ◌∙◌, subst, ap}
+use Rattle.transactions.specs.Tables.{Entries, ChangesEntry, NotesTarget}
 use Rattle.indexmap.specs.Layout.{set_value_at}
 use Rattle.transactions.proofs.Entries.{first_entry, oldest_there, oldest_found, oldest_changes}
 use Rattle.transactions.proofs.table.Table.note_target.Goals.{in-Some, in_default}
