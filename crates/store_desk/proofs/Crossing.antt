@@ -12,6 +12,7 @@ use Rattle.cut_builder.specs.contracts.closed.ClosedCut as closed
 use Rattle.cut_builder.proofs.cut.Cut.TheSendSync as cut
 use Rattle.cut_builder.proofs.marked.MarkedCut.TheSendSync as marked
 use Rattle.cut_core.proofs.store.Store.TheSendSync as store
+use Rattle.cut_core.proofs.touched.Touched.TheSendSync as touched
 use Rattle.cut_core.specs.contracts.kept_world.KeptWorld as world
 use Rattle.cut_core.specs.contracts.held.Stage as stage
 use Rattle.cut_core.specs.contracts.held.HeldCut as held_cut
@@ -53,7 +54,7 @@ event_send = recorded_send _ _ _ event.the_type.to_one (struct_send (shape event
 
 module _ (D : RattleType) (disks : DiskOf D.Denot) (s : IsSend D) where
   core_send : IsSend (core.the_row D disks)
-  core_send = view_send _ _ _ _ _ (recorded_send _ _ _ (core_inside.the_type D disks).to_one (struct_send (shape (core_inside.the_type D disks)) (search sendable, (store.the_field_send D s, (search (sendable, held_cut_send) depth 16, (kept.the_send world.the_row, tt))))))
+  core_send = view_send _ _ _ _ _ (recorded_send _ _ _ (core_inside.the_type D disks).to_one (struct_send (shape (core_inside.the_type D disks)) (search sendable, (store.the_field_send D s, (search (sendable, held_cut_send) depth 16, (kept.the_send world.the_row, (touched.the_send, tt)))))))
 
   start_send : IsSend (snapshot.the_row (core.the_row D disks))
   start_send = snapshot_send (core.the_row D disks)
