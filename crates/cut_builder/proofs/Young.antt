@@ -18,7 +18,7 @@ use Rattle.store_model.proofs.Flats.{in_flat, in_objects_of}
 use Rattle.page_image.specs.Slots.{fresh_slot}
 use Rattle.page_image.specs.Pages.{PageParts}
 use Rattle.page_image.specs.declared.page_copy.PageCopy.{PageCopy}
-use Rattle.cut_model.specs.CutPages.{Copied, Changed, CutPage, bare_page, images_of, images_of_change, images_of_copy, images_of_before, objects_on, kept_beside, with_copy, with_commit, cut_graph}
+use Rattle.cut_model.specs.CutPages.{CopyParts, AfterImage, CutPage, bare_page, images_of, images_of_after, images_of_copy, images_of_before, objects_on, kept_beside, with_copy, with_commit, cut_graph}
 use Rattle.cut_model.proofs.Openings.{get-replicate_same}
 use Rattle.cut_builder.specs.CutParts.{CutParts, page_of, with_page, copied_of, HasOneNameEach, IsLater}
 use Rattle.cut_builder.specs.Young.{IsYoung, AreYoung, IsYoungCut, IsYoungCopy}
@@ -67,11 +67,11 @@ replaced_early pages page commits p within early new k = dite (ℕ_discrete k pa
     (λ e. subst (IsLater commits) (sym (ap (page_of (set pages page p)) e ∙ get_or-set_same pages page p bare_page within)) new)
     (λ n. subst (IsLater commits) (sym (get_or-set_other pages page k p bare_page n)) (early k))
 
-kept_in : (keep : Bool) (a : Changed) (image : List SlotParts) → In image (images_of_change (if keep then Some a else None)) → In image (images_of_change (Some a))
+kept_in : (keep : Bool) (a : AfterImage) (image : List SlotParts) → In image (images_of_after (if keep then Some a else None)) → In image (images_of_after (Some a))
 kept_in true a image m = m
 kept_in false a image m = absurd m
 
-kept_change : (moment : ℕ) (after : Option Changed) (image : List SlotParts) → In image (images_of_change (kept_beside moment after)) → In image (images_of_change after)
+kept_change : (moment : ℕ) (after : Option AfterImage) (image : List SlotParts) → In image (images_of_after (kept_beside moment after)) → In image (images_of_after after)
 kept_change moment None image m = absurd m
 kept_change moment (Some a) image m = kept_in (nat_lt moment a.moment) a image m
 
@@ -87,19 +87,19 @@ young_copy : (pages : List CutPage) (page commits : ℕ) (c : PageCopy) → page
     → AreYoung (set pages page (with_copy (copied_of c) (page_of pages page)))
 young_copy pages page commits c within young is =
     let p : CutPage = page_of pages page in
-    replaced pages page (with_copy (copied_of c) p) within young (λ image m. elim (in_append (images_of_change (kept_beside c.moment p.after)) (images_of_copy (Some (copied_of c))) image m) [
-      | inl a ↦ young.each page image (append_left (images_of_change p.after) (images_of_copy p.copy) image (kept_change c.moment p.after image a))
+    replaced pages page (with_copy (copied_of c) p) within young (λ image m. elim (in_append (images_of_after (kept_beside c.moment p.after)) (images_of_copy (Some (copied_of c))) image m) [
+      | inl a ↦ young.each page image (append_left (images_of_after p.after) (images_of_copy p.copy) image (kept_change c.moment p.after image a))
       | inr b ↦ elim b [
         | inl e ↦ subst IsYoung (sym e) is.current
         | inr r ↦ before_young c.before image is.before (in_before (copied_of c).before image r)
       ]
     ])
 
-early_kept : (keep : Bool) (a : Changed) (commits : ℕ) → a.moment < commits → IfSome (if keep then Some a else None) (λ (x : Changed). x.moment < commits)
+early_kept : (keep : Bool) (a : AfterImage) (commits : ℕ) → a.moment < commits → IfSome (if keep then Some a else None) (λ (x : AfterImage). x.moment < commits)
 early_kept true a commits h = h
 early_kept false a commits h = tt
 
-early_change : (moment commits : ℕ) (after : Option Changed) → IfSome after (λ a. a.moment < commits) → IfSome (kept_beside moment after) (λ a. a.moment < commits)
+early_change : (moment commits : ℕ) (after : Option AfterImage) → IfSome after (λ a. a.moment < commits) → IfSome (kept_beside moment after) (λ a. a.moment < commits)
 early_change moment commits None h = tt
 early_change moment commits (Some a) h = early_kept (nat_lt moment a.moment) a commits h
 
@@ -120,14 +120,14 @@ young_after pages page moment born after within young new =
     let p : CutPage = page_of pages page in
     replaced pages page (with_commit after moment born p) within young (λ image m. elim m [
       | inl e ↦ subst IsYoung (sym e) new
-      | inr r ↦ young.each page image (append_right (images_of_change p.after) (images_of_copy p.copy) image r)
+      | inr r ↦ young.each page image (append_right (images_of_after p.after) (images_of_copy p.copy) image r)
     ])
 
-later_copy : (copy : Option Copied) (low high : ℕ) → low ≤ high → IfSome copy (λ c. c.moment < low) → IfSome copy (λ c. c.moment < high)
+later_copy : (copy : Option CopyParts) (low high : ℕ) → low ≤ high → IfSome copy (λ c. c.moment < low) → IfSome copy (λ c. c.moment < high)
 later_copy None low high h m = tt
 later_copy (Some c) low high h m = omega (arith, h, m)
 
-later_change : (after : Option Changed) (low high : ℕ) → low ≤ high → IfSome after (λ a. a.moment < low) → IfSome after (λ a. a.moment < high)
+later_change : (after : Option AfterImage) (low high : ℕ) → low ≤ high → IfSome after (λ a. a.moment < low) → IfSome after (λ a. a.moment < high)
 later_change None low high h m = tt
 later_change (Some a) low high h m = omega (arith, h, m)
 

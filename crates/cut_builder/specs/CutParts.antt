@@ -8,7 +8,7 @@ use Rattle.object_graph.specs.ObjectParts.{ObjectParts}
 use Rattle.object_graph.specs.Members.{In}
 use Rattle.page_image.specs.Pages.{PageParts}
 use Rattle.page_image.specs.declared.page_copy.PageCopy.{PageCopy}
-use Rattle.cut_model.specs.CutPages.{Copied, CutPage, bare_page, cut_graph}
+use Rattle.cut_model.specs.CutPages.{CopyParts, CutPage, bare_page, cut_graph}
 use Rattle.cut_model.specs.Doomed.{AreMarks}
 
 -- its number, the number of commits as it opened, and what it has of each page
@@ -44,7 +44,7 @@ abbrev pub marks_of : List ℕ → ℕ → ℕ
 marks_of marks page = slice_index_or marks page 0
 
 -- a copy of a page as a cut keeps it
-abbrev pub copied_of : PageCopy → Copied
+abbrev pub copied_of : PageCopy → CopyParts
 copied_of c = record { current = c.current.slots; before = option_map (λ (p : PageParts). p.slots) c.before; moment = c.moment }
 
 -- both images of a copy are of its page
@@ -71,7 +71,7 @@ pub record IsFirstUncopied (pages : List CutPage) (page : ℕ) : Type 0 where
   pub least : (before : ℕ) → before < page → is_some (page_of pages before).copy ≡ true
 
 -- an image of a page: 0 the current one, 1 the one before, 2 the one after
-abbrev pub before_of : Option Copied → Option (List SlotParts)
+abbrev pub before_of : Option CopyParts → Option (List SlotParts)
 before_of None = None
 before_of (Some c) = c.before
 

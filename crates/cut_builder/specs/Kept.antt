@@ -2,16 +2,16 @@
 use Rattle.std.specs.Prelude.{◌≡◌, ℕ, ◌<◌, ◌≤◌, None, List, length, map, slice_index_or, option_map, IfSome}
 use Rattle.page_image.specs.Pages.{PageParts}
 use Rattle.object_graph.specs.declared.limits.TheConstants.{MOST_PAGES}
-use Rattle.cut_model.specs.CutPages.{Copied, Changed, CutPage}
+use Rattle.cut_model.specs.CutPages.{CopyParts, AfterImage, CutPage}
 use Rattle.cut_builder.specs.declared.kept.KeptCopy.{KeptCopy}
 use Rattle.cut_builder.specs.declared.kept.KeptChange.{KeptChange}
 use Rattle.cut_builder.specs.declared.kept.KeptPage.{KeptPage}
 use Rattle.cut_builder.specs.CutParts.{HasOneNameEach, AreCopied}
 
-abbrev pub copy_of : KeptCopy → Copied
+abbrev pub copy_of : KeptCopy → CopyParts
 copy_of c = record { current = c.current.slots; before = option_map (λ (p : PageParts). p.slots) c.before; moment = c.moment }
 
-abbrev pub change_of : KeptChange → Changed
+abbrev pub change_of : KeptChange → AfterImage
 change_of a = record { image = a.image.slots; moment = a.moment }
 
 abbrev pub cut_page_of : KeptPage → CutPage

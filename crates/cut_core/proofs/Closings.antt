@@ -96,7 +96,7 @@ module _ (held : Held) (cut : HeldCut) (parts : CutParts) (w : World) (is : held
       (λ j before. let near : j < w.pages = omega (arith, before, low) in ap not (sym (copying.copied j near) ∙ first.least j before)) in
       stays_held held w Close nothing (Uncopied page) h (close_first nothing ∙ ap (λ o. first_met (option_map (λ (p : ℕ). Uncopied p) o ∷ [])) found) refl
 
-  pub closed_holds : (closed : ClosedParts) (given : Stage) → closed ≡ record { number = parts.number; pages = parts.pages } → phase_of given ≡ phase.Closed → beside_stage given ≡ record { pages = closed.pages; roots = starts_of closed }
+  pub closed_holds : (closed : ClosedParts) (given : Stage) → closed ≡ record { number = parts.number; pages = parts.pages } → phase_of given ≡ phase.Closed → beside_stage given ≡ record { pages = closed.pages; starts = starts_of closed }
       → ((n : ℕ) → closed.number ≡ n → IsStage w n given) → AreCopied parts.pages
       → CutAnswers (record { cut = Some (record { number = cut.number; stage = given; swept = cut.swept }); last_cut = held.last_cut }) w Close images Done
   closed_holds closed given is_closed phase_is beside_is stage_is copied =
@@ -120,7 +120,7 @@ module _ (held : Held) (cut : HeldCut) (parts : CutParts) (w : World) (is : held
             swept = its.2.swept;
           });
           standing = event_stands w Close images Done (beside_stage (Copying parts)) (beside_stage given) from allowed
-              (turns_close w its.0 (beside_stage (Copying parts)) (beside_stage given) its.1 at (ap (λ (b : CutBeside). b.pages) beside_is ∙ pages) (ap (λ (b : CutBeside). b.roots) beside_is));
+              (turns_close w its.0 (beside_stage (Copying parts)) (beside_stage given) its.1 at (ap (λ (b : CutBeside). b.pages) beside_is ∙ pages) (ap (λ (b : CutBeside). b.starts) beside_is));
         };
       }
     where
@@ -222,7 +222,7 @@ closed_phase phase.Sweeping e = absurd cc
 still_beside_closed : (stage : Stage) (marked : MarkedParts) → is_phase (phase_of stage) phase.Closed ≡ true → marked.cut.pages ≡ (beside_stage stage).pages → beside_stage stage ≡ beside_stage (Sweeping marked)
 still_beside_closed (Copying c) marked e pages = absurd cc
 still_beside_closed (Sweeping m) marked e pages = absurd cc
-still_beside_closed (Closed given) marked e pages = λ i. record { pages = sym pages i; roots = root_name ∷ [] }
+still_beside_closed (Closed given) marked e pages = λ i. record { pages = sym pages i; starts = root_name ∷ [] }
 
 abbrev mark_causes : Option ℕ → OpenedCut → List (Option Refusal)
 mark_causes number cut = wrong_phase cut phase.Closed ∷ wrong_marks cut number ∷ []

@@ -8,7 +8,7 @@ use Rattle.page_buffer.specs.Frames.{clean_frame, frame_at}
 use Rattle.page_buffer.specs.declared.frame.Frame.{Frame}
 use Rattle.store_model.specs.Worlds.{World, Transaction, find_transaction, transaction, fresh_transaction, view}
 use Rattle.store_model.specs.Causes.{has_page}
-use Rattle.cut_model.specs.CutPages.{Copied}
+use Rattle.cut_model.specs.CutPages.{CopyParts}
 use Rattle.cut_model.specs.Frames.{writer_of, copy_with, copy_now}
 use Rattle.transactions.specs.Standing.{TransactionsParts, IsReady, IsFrameOf, image_in, wrote}
 use Rattle.transactions.proofs.Numbers.{found_at, found_in_list, transaction_found}
@@ -35,7 +35,7 @@ unwritten w page none txn = by (find_transaction w txn) refl
         ap (λ o. has_page (unwrap_or o (fresh_transaction txn)).pages_written page) is
         ∙ unfound (λ u. has_page u.pages_written page) w.transactions none t (found_in_list (λ (u : Transaction). u.number == txn) w.transactions t is).0
 
-same_copy : (a b : Copied) → a.current ≡ b.current → a.before ≡ b.before → a.moment ≡ b.moment → a ≡ b
+same_copy : (a b : CopyParts) → a.current ≡ b.current → a.before ≡ b.before → a.moment ≡ b.moment → a ≡ b
 same_copy a b current before moment = λ i. record { current = current i; before = before i; moment = moment i }
 
 -- the frame of a page that nobody wrote

@@ -28,7 +28,7 @@ use Rattle.store_model.specs.Lawful.{IsOrderly}
 use Rattle.store_model.specs.Images.{objects_of, shown_in}
 use Rattle.store_model.proofs.Cuts.{below_bound}
 use Rattle.store_model.proofs.Flats.{in_flat}
-use Rattle.cut_model.specs.CutPages.{images_of, images_of_change, images_of_copy, objects_on, cut_graph}
+use Rattle.cut_model.specs.CutPages.{images_of, images_of_after, images_of_copy, objects_on, cut_graph}
 use Rattle.cut_model.specs.Sound.{IsSafeObject, IsSafeImage}
 use Rattle.cut_model.specs.States.{KeepsOpening}
 use Rattle.cut_model.proofs.Views.{view_safe}
@@ -56,7 +56,7 @@ use Rattle.std.proofs.lemmas.Bool.{ne_eqb}
 use Rattle.std.proofs.lemmas.Option.{slice_get_within}
 use Rattle.store_model.specs.Causes.{has_page}
 use Rattle.transactions.specs.Tables.{OpenParts, IsAscending}
-use Rattle.cut_model.specs.CutPages.{Copied, Changed}
+use Rattle.cut_model.specs.CutPages.{CopyParts, AfterImage}
 use Rattle.cut_builder.specs.CutParts.{IsLater}
 use Rattle.cut_core.specs.Holding.{IsImageGiven, IsGivenUpTo, Copies}
 
@@ -149,7 +149,7 @@ later_given s w txn at page moment frame old now k m is up frame_is g =
     let sound = k.copying.sound page within in
     let same : page_of now.pages page ≡ page_of old.pages page = g.others page (not_given s txn at page is up) in
     subst (λ n. IsLater moment (page_of now.pages n)) (sym number) (subst (IsLater moment) (sym same)
-    (less_of (λ (c : Copied). c.moment) (page_of old.pages page).copy w.commits moment m sound.copied, less_of (λ (a : Changed). a.moment) (page_of old.pages page).after w.commits moment m sound.changed))
+    (less_of (λ (c : CopyParts). c.moment) (page_of old.pages page).copy w.commits moment m sound.copied, less_of (λ (a : AfterImage). a.moment) (page_of old.pages page).after w.commits moment m sound.changed))
 
 -- ---- the images stay safe
 
@@ -172,7 +172,7 @@ safe_given w txn moment done opening old now orderly there keeps safe g page low
       | inl e ↦
           subst (λ q. AllByRecursion (IsSafeImage opening page) (images_of q)) (sym (g.given page e).is) (
             view_safe w (transaction w txn) opening page orderly there keeps,
-            all_right (IsSafeImage opening page) (images_of_change (page_of old.pages page).after) (images_of_copy (page_of old.pages page).copy) before,
+            all_right (IsSafeImage opening page) (images_of_after (page_of old.pages page).after) (images_of_copy (page_of old.pages page).copy) before,
           )
     ]
 
@@ -201,7 +201,7 @@ names_given s w txn at page moment done frame old now k is frame_is g =
     let p = page_of now.pages page in
     let image = shown_in w (view w t) page in
     let after = safe_set opening now.pages page (with_commit image moment p.born p) safe low
-    (view_safe w t opening page orderly there k.copying.keeps, all_right (IsSafeImage opening page) (images_of_change p.after) (images_of_copy p.copy) (safe page low)) in
+    (view_safe w t opening page orderly there k.copying.keeps, all_right (IsSafeImage opening page) (images_of_after p.after) (images_of_copy p.copy) (safe page low)) in
     let one = one_name_each w opening (set now.pages page (with_commit image moment p.born p)) orderly k.copying.keeps (λ x m. graph_safe opening (set now.pages page (with_commit image moment p.born p)) x after m) in
     subst (λ n. HasOneNameEach (set now.pages n (with_commit frame.current.slots moment (page_of now.pages n).born (page_of now.pages n)))) (sym number)
     (subst (λ i. HasOneNameEach (set now.pages page (with_commit i moment p.born p))) (sym slots) one)

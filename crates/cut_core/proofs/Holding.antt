@@ -24,7 +24,7 @@ use Rattle.object_graph.specs.declared.limits.TheConstants.{MOST_COUNTED, MOST_P
 use Rattle.store_model.specs.Replies.{Allows, AllowsReply, is_free}
 use Rattle.store_model.specs.Steps.{after_reply, after_answer, after_refusal, with_new, next}
 use Rattle.store_model.specs.Worlds.{World, OpenedCut, Note, nothing, Event}
-use Rattle.cut_model.specs.CutPages.{Copied, CutPage, bare_page, with_copy}
+use Rattle.cut_model.specs.CutPages.{CopyParts, CutPage, bare_page, with_copy}
 use Rattle.cut_model.specs.Frames.{copy_now}
 use Rattle.store_model.specs.States.{state_of}
 use Rattle.cut_model.specs.Standing.{CutBeside, IsCopying, IsInPhase, IsCutStanding, IsStanding}
@@ -177,7 +177,7 @@ same_cut held cut w is h = record {
 }
 
 -- the copy of a frame leaves one name at each place
-pub copy_names : (s : TransactionsParts) (cut : CutParts) (page at commits : ℕ) (c : Copied) (frame : Frame) (w : World) → Copies s cut w → w.commits ≡ commits → (count : ℕ) → count ≡ length s.frames
+pub copy_names : (s : TransactionsParts) (cut : CutParts) (page at commits : ℕ) (c : CopyParts) (frame : Frame) (w : World) → Copies s cut w → w.commits ≡ commits → (count : ℕ) → count ≡ length s.frames
     → page < count → at ≡ page → c ≡ copy_of_frame commits frame → frame ≡ frame_at s.frames page
     → built.HasOneNameEach (set cut.pages at (with_copy c (page_of cut.pages at)))
 copy_names s cut page at commits c frame w k is count counted few at_is c_is frame_is =

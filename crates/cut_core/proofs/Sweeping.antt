@@ -111,7 +111,7 @@ swept_within cut marked last page w stage h low =
     in_phase w c.0 phase.Sweeping (beside_stage (Sweeping marked)) c.1 (sym c.2.phase ∙ ap phase_of stage) (subst (λ s. IsStanding w (beside_stage s)) stage h.standing) in
     subst (λ n. page < n) (c.2.count ∙ sym given.all) low
 
-pub doomed_may_go : (held : Held) (w : World) (page slots : ℕ) → Holds held w → first_refusal w (Sweep page) nothing ≡ None → AreDoomedOn (beside_of held.cut).roots (beside_of held.cut).pages page slots
+pub doomed_may_go : (held : Held) (w : World) (page slots : ℕ) → Holds held w → first_refusal w (Sweep page) nothing ≡ None → AreDoomedOn (beside_of held.cut).starts (beside_of held.cut).pages page slots
     → AllowsReply w (Sweep page) nothing (Freed slots)
 doomed_may_go held w page slots h may doomed = doomed_sweep_is_allowed w page slots nothing (beside_of held.cut) h.standing may doomed
 
@@ -164,7 +164,7 @@ shown_used w page slot o (u ∷ us) is m = ap (λ us. (slot_with (fields_of w pa
 
 -- each doomed slot is in use in the committed image
 pub sweep_used : (s : TransactionsParts) (held : Held) (w : World) (page slots : ℕ) → IsReady s w → Holds held w → first_refusal w (Sweep page) nothing ≡ None
-    → AreDoomedOn (beside_of held.cut).roots (beside_of held.cut).pages page slots → (slot : ℕ) → has_slot slots slot ≡ true → (slot_at (frame_at s.frames page).before slot).in_use ≡ true
+    → AreDoomedOn (beside_of held.cut).starts (beside_of held.cut).pages page slots → (slot : ℕ) → has_slot slots slot ≡ true → (slot_at (frame_at s.frames page).before slot).in_use ≡ true
 sweep_used s held w page slots ready h may doomed slot on =
     let c = to_sweep w page may in
     let given : IsGiven w c.cut (beside_of held.cut) = in_phase w c.cut phase.Sweeping (beside_of held.cut) c.is c.sweeping h.standing in
@@ -353,7 +353,7 @@ pub record IsSweepOf {D : Type 0} (disks : DiskOf D) (old : Store D) (page slots
 
 module _ {D : Type 0} (disks : DiskOf D) where
   pub is_sweep : (old : Store D) (held : Held) (page slots : ℕ) (w : World) → old.broken ≡ None → ((w : World) → Holds held w → w.broken ≡ None → first_refusal w (Sweep page) nothing ≡ None)
-      → AreDoomedOn (beside_of held.cut).roots (beside_of held.cut).pages page slots → Stands disks old w → Holds held w → IsSweepOf disks old page slots w
+      → AreDoomedOn (beside_of held.cut).starts (beside_of held.cut).pages page slots → Stands disks old w → Holds held w → IsSweepOf disks old page slots w
   is_sweep old held page slots w sound may doomed h holds =
       let first = may w holds (sym h.broken ∙ sound) in
       let ready = is_ready disks old w sound h in

@@ -35,9 +35,9 @@ phase_of (Sweeping marked) = phase.Sweeping
 
 -- what stands beside the world: what the cut has of each page and, from the closing on, where the marks start
 abbrev pub beside_stage : Stage → CutBeside
-beside_stage (Copying cut) = record { pages = cut.pages; roots = [] }
-beside_stage (Closed given) = record { pages = given.value.pages; roots = starts_of given.value }
-beside_stage (Sweeping marked) = record { pages = marked.cut.pages; roots = starts_of marked.cut }
+beside_stage (Copying cut) = record { pages = cut.pages; starts = [] }
+beside_stage (Closed given) = record { pages = given.value.pages; starts = starts_of given.value }
+beside_stage (Sweeping marked) = record { pages = marked.cut.pages; starts = starts_of marked.cut }
 
 abbrev pub beside_of : Option HeldCut → CutBeside
 beside_of None = nothing_copied 0

@@ -85,7 +85,7 @@ pub fn answer<D: Disk, L: Ledger>(
     ensures keeps { KeepsDisk D.Disk store.old.disk store.new.disk }
     ensures given { KeepsGiven held.old held.new }
     ensures copied { (w : World) (page : ℕ) → Stands D.Disk store.old w → Holds held.old w → call.now ≡ Copy page → result ≡ Done → AddsFrame w page (beside_of held.old.cut) (beside_of held.new.cut) }
-    ensures freed { (page slots : ℕ) → call.now ≡ Sweep page → result ≡ Freed slots → AreDoomedOn (beside_of held.old.cut).roots (beside_of held.old.cut).pages page slots }
+    ensures freed { (page slots : ℕ) → call.now ≡ Sweep page → result ≡ Freed slots → AreDoomedOn (beside_of held.old.cut).starts (beside_of held.old.cut).pages page slots }
     ensures idle { (page : ℕ) → call.now ≡ Sweep page → result ≡ Freed 0 → store.new.disk ≡ store.old.disk }
     ensures taken { TakesSteps call.now result steps.old steps.new }
     ensures frames { TouchesWell store.old.transactions store.new.transactions call.now result }

@@ -155,7 +155,7 @@ impl<D: Disk> Core<D> {
         ensures copied { (page : ℕ) → call ≡ Copy page → result ≡ Done → AddsFrame self.old.world page self.old.beside self.new.beside }
 
         // A sweep frees exactly the slots of the doomed names on its page, and calls the disk only where it frees.
-        ensures freed { (page slots : ℕ) → call ≡ Sweep page → result ≡ Freed slots → AreDoomedOn self.old.beside.roots self.old.beside.pages page slots }
+        ensures freed { (page slots : ℕ) → call ≡ Sweep page → result ≡ Freed slots → AreDoomedOn self.old.beside.starts self.old.beside.pages page slots }
         ensures idle { (page : ℕ) → call ≡ Sweep page → result ≡ Freed 0 → self.new.disk ≡ self.old.disk }
 
         // How often a call on the cut reads a frame or frees in one: a copy once at most, a sweep that frees

@@ -47,7 +47,7 @@ impl<D: Disk> Store<D> {
         ensures fault { result ≡ Refused DiskFault → Rose (D.fault_count self.old.disk) (D.fault_count self.new.disk) }
         ensures calm { result ≢ Refused DiskFault → D.fault_count self.new.disk ≡ D.fault_count self.old.disk }
         ensures keeps { KeepsDisk D.Disk self.old.disk self.new.disk }
-        ensures freed { (page slots : ℕ) → call.now ≡ Sweep page → result ≡ Freed slots → AreDoomedOn (beside_of held.old.cut).roots (beside_of held.old.cut).pages page slots }
+        ensures freed { (page slots : ℕ) → call.now ≡ Sweep page → result ≡ Freed slots → AreDoomedOn (beside_of held.old.cut).starts (beside_of held.old.cut).pages page slots }
         ensures idle { (page : ℕ) → call.now ≡ Sweep page → result ≡ Freed 0 → self.new.disk ≡ self.old.disk }
         ensures taken { TakesSteps call.now result steps.old steps.new }
         ensures frames { TouchesWell self.old.transactions self.new.transactions call.now result }

@@ -39,7 +39,7 @@ impl HeldCut {
         requires { (w : World) × (last : ℕ) × Holds (record { cut = Some self.now; last_cut = last }) w }
         ensures may { OnOk result (sweep_refusal self.now page ≡ None) }
         ensures why { (why : AnyRefusal) → result ≡ Err why → sweep_refusal self.now page ≡ Some why }
-        ensures exact { IfOk result (λ slots. AreDoomedOn (beside_stage self.now.stage).roots (beside_stage self.now.stage).pages page slots) }
+        ensures exact { IfOk result (λ slots. AreDoomedOn (beside_stage self.now.stage).starts (beside_stage self.now.stage).pages page slots) }
         ensures other { (why : AnyRefusal) → result ≡ Err why → why ≢ DiskFault }
     {
         let Stage::Sweeping { marked } = &self.stage else {
@@ -63,7 +63,7 @@ impl Held {
         requires { (w : World) × Holds self.now w }
         ensures may { OnOk result ((w : World) → Holds self.now w → w.broken ≡ None → first_refusal w (Sweep page) nothing ≡ None) }
         ensures refused { (why : AnyRefusal) → result ≡ Err why → (w : World) → Holds self.now w → w.broken ≡ None → first_refusal w (Sweep page) nothing ≡ Some why }
-        ensures exact { IfOk result (λ slots. AreDoomedOn (beside_of self.now.cut).roots (beside_of self.now.cut).pages page slots) }
+        ensures exact { IfOk result (λ slots. AreDoomedOn (beside_of self.now.cut).starts (beside_of self.now.cut).pages page slots) }
         ensures other { (why : AnyRefusal) → result ≡ Err why → why ≢ DiskFault }
     {
         match &self.cut {
@@ -119,7 +119,7 @@ impl<D: Disk> Store<D> {
         ensures fault { result ≡ Refused DiskFault → Rose (D.fault_count self.old.disk) (D.fault_count self.new.disk) }
         ensures calm { result ≢ Refused DiskFault → D.fault_count self.new.disk ≡ D.fault_count self.old.disk }
         ensures keeps { KeepsDisk D.Disk self.old.disk self.new.disk }
-        ensures freed { (slots : ℕ) → result ≡ FreedOf slots → AreDoomedOn (beside_of held.old.cut).roots (beside_of held.old.cut).pages page slots }
+        ensures freed { (slots : ℕ) → result ≡ FreedOf slots → AreDoomedOn (beside_of held.old.cut).starts (beside_of held.old.cut).pages page slots }
         ensures idle { result ≡ FreedOf 0 → self.new.disk ≡ self.old.disk }
         ensures taken { TakesSteps (Sweep page) result steps.old steps.new }
         ensures frames { TouchesWell self.old.transactions self.new.transactions (Sweep page) result }
@@ -147,7 +147,7 @@ impl<D: Disk> Store<D> {
         requires sound { self.old.broken ≡ None }
         requires stands { (w : World) × Stands D.Disk self.old w × Holds held.old w }
         requires may { (w : World) → Holds held.old w → w.broken ≡ None → first_refusal w (Sweep page) nothing ≡ None }
-        requires doomed { AreDoomedOn (beside_of held.old.cut).roots (beside_of held.old.cut).pages page slots }
+        requires doomed { AreDoomedOn (beside_of held.old.cut).starts (beside_of held.old.cut).pages page slots }
         requires some { slots ≢ 0 }
         ensures held { (w : World) → Stands D.Disk self.old w → Holds held.old w → Holds held.new (next w (event_of (Sweep page) result (D.fault_count self.new.disk))) }
         ensures given { KeepsGiven held.old held.new }

@@ -22,7 +22,7 @@ use Rattle.store_model.specs.Lawful.{IsOrderly}
 use Rattle.store_model.specs.Worlds.{is_unfreed, is_old}
 use Rattle.store_model.specs.States.{state_of, state_after}
 use Rattle.cut_model.specs.States.{KeepsOpening}
-use Rattle.cut_model.specs.CutPages.{Copied, Changed, CutPage, bare_page, settled_with, settled_image, images_of_copy, images_of_change, with_commit}
+use Rattle.cut_model.specs.CutPages.{CopyParts, AfterImage, CutPage, bare_page, settled_with, settled_image, images_of_copy, images_of_after, with_commit}
 use Rattle.cut_model.specs.Sound.{IsSafeImage, IsBornRight, IsSoundPage, IsSound, IsFitCopy}
 use Rattle.cut_model.specs.Changes.{IsMade, IsCutAfter}
 use Rattle.cut_model.proofs.Views.{view_safe}
@@ -134,9 +134,9 @@ pub commit_keeps_written : (w : World) (t : Transaction) (opening : Opening) (pa
     → IsSoundPage (state_after w t) opening page (with_commit (shown_in w (view w t) page) (w.commits + 1) born p)
 commit_keeps_written w t opening page born p lawful m keeps made sound = record {
   settled = refl;
-  images = (view_safe w t opening page lawful m keeps, all_right (IsSafeImage opening page) (images_of_change p.after) (images_of_copy p.copy) sound.images);
+  images = (view_safe w t opening page lawful m keeps, all_right (IsSafeImage opening page) (images_of_after p.after) (images_of_copy p.copy) sound.images);
   born = born_after w t opening page p.born born lawful m keeps made sound.born;
-  copied = later (λ (c : Copied). c.moment) p.copy w.commits sound.copied;
+  copied = later (λ (c : CopyParts). c.moment) p.copy w.commits sound.copied;
   changed = omega arith;
 }
 
@@ -147,8 +147,8 @@ commit_keeps_other w t opening page p lawful m keeps away sound = record {
   settled = subst (λ shown. IfSome (settled_image p) (λ image. image ≡ shown)) (sym (shown_stays w t page lawful m away)) sound.settled;
   images = sound.images;
   born = born_after w t opening page p.born p.born lawful m keeps (made_none w t page p.born lawful m away) sound.born;
-  copied = later (λ (c : Copied). c.moment) p.copy w.commits sound.copied;
-  changed = later (λ (a : Changed). a.moment) p.after w.commits sound.changed;
+  copied = later (λ (c : CopyParts). c.moment) p.copy w.commits sound.copied;
+  changed = later (λ (a : AfterImage). a.moment) p.after w.commits sound.changed;
 }
 
 -- a page that was written and has no image yet may stay without one
@@ -160,8 +160,8 @@ commit_keeps_bare w t opening page born p lawful m keeps no_copy no_change made 
       (subst (λ c. IfSome (settled_with None c) (λ image. image ≡ shown_in w (view w t) page)) (sym no_copy) tt);
   images = sound.images;
   born = born_after w t opening page p.born born lawful m keeps made sound.born;
-  copied = later (λ (c : Copied). c.moment) p.copy w.commits sound.copied;
-  changed = later (λ (a : Changed). a.moment) p.after w.commits sound.changed;
+  copied = later (λ (c : CopyParts). c.moment) p.copy w.commits sound.copied;
+  changed = later (λ (a : AfterImage). a.moment) p.after w.commits sound.changed;
 }
 
 pub commit_keeps_cut : (w : World) (t : Transaction) (opening : Opening) (pages after : List CutPage) → IsOrderly w → In t w.transactions → KeepsOpening w opening
@@ -182,11 +182,11 @@ commit_keeps_cut w t opening pages after lawful m keeps is sound = λ page withi
 -- ---- a fit copy stays fit
 
 -- where the page was written, its after-image is later than the copy
-pub fit_stays_written : (w : World) (t : Transaction) (opening : Opening) (page born : ℕ) (p : CutPage) (c : Copied)
+pub fit_stays_written : (w : World) (t : Transaction) (opening : Opening) (page born : ℕ) (p : CutPage) (c : CopyParts)
     → IsFitCopy (state_of w) opening page p c → IsFitCopy (state_after w t) opening page (with_commit (shown_in w (view w t) page) (w.commits + 1) born p) c
 fit_stays_written w t opening page born p c fit = let h = fit.moment in record { settled = inr (omega arith); images = fit.images; since = fit.since; moment = omega arith }
 
-pub fit_stays_other : (w : World) (t : Transaction) (opening : Opening) (page : ℕ) (p : CutPage) (c : Copied) → IsOrderly w → In t w.transactions
+pub fit_stays_other : (w : World) (t : Transaction) (opening : Opening) (page : ℕ) (p : CutPage) (c : CopyParts) → IsOrderly w → In t w.transactions
     → has_page t.pages_written page ≡ false → IsFitCopy (state_of w) opening page p c → IsFitCopy (state_after w t) opening page p c
 fit_stays_other w t opening page p c lawful m away fit = let h = fit.moment in record {
   settled = elim fit.settled [ inl e ↦ inl (e ∙ sym (shown_stays w t page lawful m away)) | inr z ↦ inr z ];

@@ -9,19 +9,19 @@ use Rattle.object_graph.proofs.Members.{In, each_in}
 use Rattle.store_model.proofs.Cuts.{below_bound}
 use Rattle.store_model.specs.States.{State, shown_by}
 use Rattle.store_model.specs.Images.{objects_of}
-use Rattle.cut_model.specs.CutPages.{Copied, Changed, CutPage, bare_page, committed_image, settled_with, settled_image, images_of_before, images_of_copy, images_of_change, images_of, objects_on, cut_graph}
+use Rattle.cut_model.specs.CutPages.{CopyParts, AfterImage, CutPage, bare_page, committed_image, settled_with, settled_image, images_of_before, images_of_copy, images_of_after, images_of, objects_on, cut_graph}
 use Rattle.cut_model.specs.Sound.{IsSafeObject, IsSafeImage, IsSoundPage, IsSound}
 use Rattle.store_model.proofs.Flats.{in_flat, flat_in}
 use Rattle.store_model.proofs.Lists.{in_below}
 
 -- the settled image is one of the images
-committed_in : (c : Copied) (before : Option (List SlotParts)) → before ≡ c.before → In (committed_image c) (images_of_copy (Some c))
+committed_in : (c : CopyParts) (before : Option (List SlotParts)) → before ≡ c.before → In (committed_image c) (images_of_copy (Some c))
 committed_in c None e = inl (ap (λ (b : Option (List SlotParts)). unwrap_or b c.current) (sym e))
 committed_in c (Some image) e =
     inr (subst (λ (b : Option (List SlotParts)). In (unwrap_or b c.current) (images_of_before b)) e (inl refl))
 
-settled_in_with : (after : Option Changed) (copy : Option Copied) (image : List SlotParts) → settled_with after copy ≡ Some image
-    → In image (images_of_change after ++ images_of_copy copy)
+settled_in_with : (after : Option AfterImage) (copy : Option CopyParts) (image : List SlotParts) → settled_with after copy ≡ Some image
+    → In image (images_of_after after ++ images_of_copy copy)
 settled_in_with (Some a) copy image e = inl (let q : a.image ≡ image = cc in sym q)
 settled_in_with None None image e = cc
 settled_in_with None (Some c) image e =
@@ -32,7 +32,7 @@ pub settled_in : (p : CutPage) (image : List SlotParts) → settled_image p ≡ 
 settled_in p image e = settled_in_with p.after p.copy image e
 
 -- a page with a copy has a settled image
-settled_there_with : (after : Option Changed) (copy : Option Copied) → is_some copy ≡ true → (image : List SlotParts) × (settled_with after copy ≡ Some image)
+settled_there_with : (after : Option AfterImage) (copy : Option CopyParts) → is_some copy ≡ true → (image : List SlotParts) × (settled_with after copy ≡ Some image)
 settled_there_with (Some a) copy h = (a.image, refl)
 settled_there_with None (Some c) h = (committed_image c, refl)
 settled_there_with None None h = cc

@@ -19,7 +19,7 @@ use Rattle.store_model.proofs.Opened.{commit_is_open}
 use Rattle.store_model.specs.Lawful.{IsOrderly}
 use Rattle.store_model.specs.States.{State, state_of, state_after}
 use Rattle.cut_model.specs.States.{KeepsOpening}
-use Rattle.cut_model.specs.CutPages.{Copied, Changed, CutPage, bare_page, with_copy}
+use Rattle.cut_model.specs.CutPages.{CopyParts, AfterImage, CutPage, bare_page, with_copy}
 use Rattle.cut_model.specs.Sound.{IsSound, IsFit}
 use Rattle.cut_model.specs.Frames.{copy_now}
 use Rattle.cut_model.specs.Changes.{IsCutAfter, Adds, ChangesBy, Changes, GivesImages, GivesImagesBy, ends_copying}
@@ -63,7 +63,7 @@ event_keeps_sound w opening call note reply pages after lawful keeps may stays c
 abbrev GivesOf : Transaction → List CutPage → Type 0
 GivesOf t after = (page : ℕ) → page < length after → has_page t.pages_written page ≡ true → is_some (get_or after page bare_page).after ≡ true
 
-fit_commit : (w : World) (t : Transaction) (opening : Opening) (pages after : List CutPage) (page : ℕ) (c : Copied) → IsOrderly w → In t w.transactions → page < length pages
+fit_commit : (w : World) (t : Transaction) (opening : Opening) (pages after : List CutPage) (page : ℕ) (c : CopyParts) → IsOrderly w → In t w.transactions → page < length pages
     → IsCutAfter w t pages after → GivesOf t after → IsFit (state_of w) opening page (get_or pages page bare_page) c → IsFit (state_after w t) opening page (get_or after page bare_page) c
 fit_commit w t opening pages after page c lawful m within is given fit = elim (cases_Bool (has_page t.pages_written page)) [
   | inl e ↦ elim (is.written page within e) [
@@ -74,7 +74,7 @@ fit_commit w t opening pages after page c lawful m within is given fit = elim (c
     | inr skipped ↦
         let some = given page (let l = is.all in omega arith) e in
         let none : (get_or after page bare_page).after ≡ None = ap (λ (p : CutPage). p.after) skipped.2 ∙ skipped.1 in
-        let z : is_some (get_or after page bare_page).after ≡ false = ap (λ (o : Option Changed). is_some o) none in
+        let z : is_some (get_or after page bare_page).after ≡ false = ap (λ (o : Option AfterImage). is_some o) none in
         cc
   ]
   | inr e ↦ subst (λ p. IsFit (state_after w t) opening page p c) (sym (is.others page e)) (elim fit [
@@ -84,7 +84,7 @@ fit_commit w t opening pages after page c lawful m within is given fit = elim (c
 ]
 
 -- another copy is added
-fit_beside : (s : State) (opening : Opening) (pages after : List CutPage) (page other : ℕ) (c d : Copied) → Adds other d pages after
+fit_beside : (s : State) (opening : Opening) (pages after : List CutPage) (page other : ℕ) (c d : CopyParts) → Adds other d pages after
     → IsFit s opening page (get_or pages page bare_page) c → IsFit s opening page (get_or after page bare_page) c
 fit_beside s opening pages after page other c d adds fit = elim (cases_eq page other) [
   | inl e ↦
@@ -97,7 +97,7 @@ fit_beside s opening pages after page other c d adds fit = elim (cases_eq page o
       subst (λ p. IsFit s opening page p c) (sym g) fit
 ]
 
-answer_keeps_fit : (w : World) (opening : Opening) (call : Call) (note : Note) (reply : Reply) (pages after : List CutPage) (page : ℕ) (c : Copied) → IsOrderly w
+answer_keeps_fit : (w : World) (opening : Opening) (call : Call) (note : Note) (reply : Reply) (pages after : List CutPage) (page : ℕ) (c : CopyParts) → IsOrderly w
     → page < length pages → first_refusal w call note ≡ None → ends_copying call ≡ false → ChangesBy w opening call pages after → GivesImagesBy w call after
     → IsFit (state_of w) opening page (get_or pages page bare_page) c → IsFit (state_of (after_answer w call note reply)) opening page (get_or after page bare_page) c
 answer_keeps_fit w opening (New t p) note reply pages after page c lawful within may stays changes given fit =
@@ -112,7 +112,7 @@ answer_keeps_fit w opening Reopen note reply pages after page c lawful within ma
 answer_keeps_fit w opening _ note reply pages after page c lawful within may stays changes given fit =
     subst (λ ps. IsFit (state_of w) opening page (get_or ps page bare_page) c) (sym changes) fit
 
-pub event_keeps_fit : (w : World) (opening : Opening) (call : Call) (note : Note) (reply : Reply) (pages after : List CutPage) (page : ℕ) (c : Copied) → IsOrderly w
+pub event_keeps_fit : (w : World) (opening : Opening) (call : Call) (note : Note) (reply : Reply) (pages after : List CutPage) (page : ℕ) (c : CopyParts) → IsOrderly w
     → page < length pages → AllowsReply w call note reply → ends_copying call ≡ false → Changes w opening call reply pages after → GivesImages w call reply after
     → IsFit (state_of w) opening page (get_or pages page bare_page) c → IsFit (state_of (after_reply w call note reply)) opening page (get_or after page bare_page) c
 event_keeps_fit w opening call note (Refused why) pages after page c lawful within may stays changes given fit =

@@ -12,7 +12,7 @@ use Rattle.store_model.proofs.Lists.{find_in}
 use Rattle.store_model.specs.Lawful.{IsOrderly}
 use Rattle.store_model.specs.States.{State, state_of, shown_by}
 use Rattle.cut_model.specs.States.{KeepsOpening}
-use Rattle.cut_model.specs.CutPages.{Copied, Changed, CutPage, bare_page, committed_image, settled_with, images_of_copy, images_of_change, kept_beside, with_copy}
+use Rattle.cut_model.specs.CutPages.{CopyParts, AfterImage, CutPage, bare_page, committed_image, settled_with, images_of_copy, images_of_after, kept_beside, with_copy}
 use Rattle.cut_model.specs.Sound.{IsSafeImage, IsSoundPage, IsSound, IsFitCopy}
 use Rattle.cut_model.specs.Frames.{writer_of, copy_with, copy_now}
 use Rattle.cut_model.proofs.Views.{committed_safe, view_safe}
@@ -46,43 +46,43 @@ all_right P [] ys h = h
 all_right P (x ∷ xs) ys h = all_right P xs ys h.1
 
 -- an after-image that is kept beside a copy
-kept_settled : (moment : ℕ) (after : Option Changed) (copy : Option Copied) (c : Copied) (image : List SlotParts)
+kept_settled : (moment : ℕ) (after : Option AfterImage) (copy : Option CopyParts) (c : CopyParts) (image : List SlotParts)
     → IfSome (settled_with after copy) (λ i. i ≡ image) → (committed_image c ≡ image) ⊎ IsSomeAnd after (λ a. moment < a.moment)
     → IfSome (settled_with (kept_beside moment after) (Some c)) (λ i. i ≡ image)
 kept_settled moment None copy c image h f = elim f [ inl e ↦ e | inr z ↦ absurd z ]
 kept_settled moment (Some a) copy c image h f = by_test moment a c image h f (ltb moment a.moment) refl
   where
-    by_test : (moment : ℕ) (a : Changed) (c : Copied) (image : List SlotParts) → a.image ≡ image → (committed_image c ≡ image) ⊎ (moment < a.moment)
+    by_test : (moment : ℕ) (a : AfterImage) (c : CopyParts) (image : List SlotParts) → a.image ≡ image → (committed_image c ≡ image) ⊎ (moment < a.moment)
         → (b : Bool) → ltb moment a.moment ≡ b → IfSome (settled_with (cond b (Some a) None) (Some c)) (λ i. i ≡ image)
     by_test moment a c image h f true e = h
     by_test moment a c image h f false e = elim f [ inl q ↦ q | inr z ↦ absurd (omega (arith, ltb-false, e)) ]
 
-kept_images : (P : List SlotParts → Type 0) (moment : ℕ) (after : Option Changed) → AllByRecursion P (images_of_change after) → AllByRecursion P (images_of_change (kept_beside moment after))
+kept_images : (P : List SlotParts → Type 0) (moment : ℕ) (after : Option AfterImage) → AllByRecursion P (images_of_after after) → AllByRecursion P (images_of_after (kept_beside moment after))
 kept_images P moment None h = tt
 kept_images P moment (Some a) h = by_test P a h (ltb moment a.moment)
   where
-    by_test : (P : List SlotParts → Type 0) (a : Changed) → AllByRecursion P (images_of_change (Some a)) → (b : Bool) → AllByRecursion P (images_of_change (cond b (Some a) None))
+    by_test : (P : List SlotParts → Type 0) (a : AfterImage) → AllByRecursion P (images_of_after (Some a)) → (b : Bool) → AllByRecursion P (images_of_after (cond b (Some a) None))
     by_test P a h true = h
     by_test P a h false = tt
 
-kept_moment : (Q : Changed → Type 0) (moment : ℕ) (after : Option Changed) → IfSome after Q → IfSome (kept_beside moment after) Q
+kept_moment : (Q : AfterImage → Type 0) (moment : ℕ) (after : Option AfterImage) → IfSome after Q → IfSome (kept_beside moment after) Q
 kept_moment Q moment None h = tt
 kept_moment Q moment (Some a) h = by_test Q a h (ltb moment a.moment)
   where
-    by_test : (Q : Changed → Type 0) (a : Changed) → Q a → (b : Bool) → IfSome (cond b (Some a) None) Q
+    by_test : (Q : AfterImage → Type 0) (a : AfterImage) → Q a → (b : Bool) → IfSome (cond b (Some a) None) Q
     by_test Q a h true = h
     by_test Q a h false = tt
 
-pub fit_copy_keeps_page : (s : State) (opening : Opening) (page : ℕ) (p : CutPage) (c : Copied) → IsSoundPage s opening page p → IsFitCopy s opening page p c
+pub fit_copy_keeps_page : (s : State) (opening : Opening) (page : ℕ) (p : CutPage) (c : CopyParts) → IsSoundPage s opening page p → IsFitCopy s opening page p c
     → IsSoundPage s opening page (with_copy c p)
 fit_copy_keeps_page s opening page p c sound fit = record {
   settled = kept_settled c.moment p.after p.copy c (shown_by s page) sound.settled fit.settled;
-  images = all_append (IsSafeImage opening page) (images_of_change (kept_beside c.moment p.after)) (images_of_copy (Some c))
-      (kept_images (IsSafeImage opening page) c.moment p.after (all_left (IsSafeImage opening page) (images_of_change p.after) (images_of_copy p.copy) sound.images))
+  images = all_append (IsSafeImage opening page) (images_of_after (kept_beside c.moment p.after)) (images_of_copy (Some c))
+      (kept_images (IsSafeImage opening page) c.moment p.after (all_left (IsSafeImage opening page) (images_of_after p.after) (images_of_copy p.copy) sound.images))
       fit.images;
   born = sound.born;
   copied = fit.moment;
-  changed = kept_moment (λ (a : Changed). a.moment ≤ s.commits) c.moment p.after sound.changed;
+  changed = kept_moment (λ (a : AfterImage). a.moment ≤ s.commits) c.moment p.after sound.changed;
 }
 
 -- a sound cut with one page that stays sound
@@ -100,7 +100,7 @@ page_keeps_cut s opening pages page p sound new = λ k within. elim (cases_eq k 
 ]
 
 -- so a copy that is handed in keeps a cut sound, and the page's frame too
-pub fit_copy_keeps_cut : (s : State) (opening : Opening) (pages : List CutPage) (page : ℕ) (c : Copied) → IsSound s opening pages → page < length pages
+pub fit_copy_keeps_cut : (s : State) (opening : Opening) (pages : List CutPage) (page : ℕ) (c : CopyParts) → IsSound s opening pages → page < length pages
     → IsFitCopy s opening page (get_or pages page bare_page) c → IsSound s opening (set pages page (with_copy c (get_or pages page bare_page)))
 fit_copy_keeps_cut s opening pages page c sound within fit =
     page_keeps_cut s opening pages page (with_copy c (get_or pages page bare_page)) sound

@@ -24,12 +24,12 @@ use Rattle.store_model.proofs.Allowed.{when_none, with_page_cases}
 use Rattle.store_model.specs.Lawful.{IsOrderly}
 use Rattle.store_model.specs.States.{State, state_of, state_after}
 use Rattle.cut_model.specs.States.{KeepsOpening}
-use Rattle.cut_model.specs.CutPages.{Copied, CutPage, bare_page, with_copy}
+use Rattle.cut_model.specs.CutPages.{CopyParts, CutPage, bare_page, with_copy}
 use Rattle.cut_model.specs.Sound.{IsSound}
 use Rattle.cut_model.specs.Frames.{copy_now}
 use Rattle.cut_model.specs.Changes.{IsCutAfter, Adds, ChangesBy}
 use Rattle.cut_model.specs.Doomed.{KeepsDoomed, AreDoomedOn}
-use Rattle.cut_model.specs.Standing.{CutBeside, nothing_copied, roots_after, IsCopying, IsGiven, IsInPhase, IsCutStanding, IsStanding, TurnsIn, TurnsBeside, TurnsOf, Turns}
+use Rattle.cut_model.specs.Standing.{CutBeside, nothing_copied, starts_after, IsCopying, IsGiven, IsInPhase, IsCutStanding, IsStanding, TurnsIn, TurnsBeside, TurnsOf, Turns}
 use Rattle.store_model.proofs.OutOfReach.{Follows, safe_one}
 use Rattle.cut_model.proofs.CutGraphs.{cut_graph_safe}
 use Rattle.cut_model.proofs.Safety.{closing_keeps_doomed}
@@ -65,7 +65,7 @@ given_stays : (w after : World) (cut : OpenedCut) (pages : CutBeside) → IsOrde
 given_stays w after cut pages lawful next f same given = record {
   keeps = lost_stays w after cut.opening next (graph_follows w after lawful f) ([], freed_same w after f) given.keeps;
   all = given.all ∙ sym same;
-  doomed = doomed_stays w after cut.opening pages.roots pages.pages cut.swept next (graph_follows w after lawful f) (freed_same w after f) given.doomed;
+  doomed = doomed_stays w after cut.opening pages.starts pages.pages cut.swept next (graph_follows w after lawful f) (freed_same w after f) given.doomed;
   safe = given.safe;
 }
 
@@ -82,7 +82,7 @@ copying_stays w after cut pages next_pages lawful next f same copying copies sou
   copied = λ page within.
       let low : page < w.pages = omega arith in
       let here : page < length pages = let e = copying.all in omega arith in
-      ap (λ (o : Option Copied). is_some o) (copies.1 page here) ∙ copying.copied page low;
+      ap (λ (o : Option CopyParts). is_some o) (copies.1 page here) ∙ copying.copied page low;
   unswept = copying.unswept;
 }
 
@@ -104,12 +104,12 @@ quiet w after pages lawful next e same cut stands = subst (λ o. MatchOption o (
 
 -- a call that only changes transactions
 -- two that are the same in both parts
-same_beside : (a b : CutBeside) → a.pages ≡ b.pages → a.roots ≡ b.roots → a ≡ b
+same_beside : (a b : CutBeside) → a.pages ≡ b.pages → a.starts ≡ b.starts → a ≡ b
 same_beside a b p q =
-    ap (λ ps. let x : CutBeside = record { pages = ps; roots = a.roots } in x) p ∙ ap (λ ns. let x : CutBeside = record { pages = b.pages; roots = ns } in x) q
+    ap (λ ps. let x : CutBeside = record { pages = ps; starts = a.starts } in x) p ∙ ap (λ ns. let x : CutBeside = record { pages = b.pages; starts = ns } in x) q
 
 quiet_answer : (w after : World) (call : Call) (pages next_pages : CutBeside) → IsOrderly w → IsOrderly after → state_of after ≡ state_of w → after.pages ≡ w.pages → after.cut ≡ w.cut
-    → ((cut : OpenedCut) → ChangesBy w cut.opening call pages.pages next_pages.pages → next_pages.pages ≡ pages.pages) → roots_after w call pages.roots ≡ pages.roots
+    → ((cut : OpenedCut) → ChangesBy w cut.opening call pages.pages next_pages.pages → next_pages.pages ≡ pages.pages) → starts_after w call pages.starts ≡ pages.starts
     → MatchOption w.cut (next_pages ≡ pages) (TurnsBeside w call pages next_pages)
     → MatchOption w.cut (Unit {0}) (IsCutStanding w pages) → MatchOption after.cut (Unit {0}) (IsCutStanding after next_pages)
 quiet_answer w after call pages next_pages lawful next e same cut still kept turns stands =
@@ -155,7 +155,7 @@ commit_phase w after t cut Sweeping n pages next_pages lawful next i is e same t
 pub right_phase : (cut : OpenedCut) (phase : Phase) → wrong_phase cut phase ≡ None → is_phase cut.phase phase ≡ true
 right_phase cut phase h = not-false (is_phase cut.phase phase) (when_none (not (is_phase cut.phase phase)) _ h)
 
-copied_more : (w : World) (cut : OpenedCut) (page : ℕ) (c : Copied) (pages after : List CutPage) → IsCopying w cut pages → Adds page c pages after
+copied_more : (w : World) (cut : OpenedCut) (page : ℕ) (c : CopyParts) (pages after : List CutPage) → IsCopying w cut pages → Adds page c pages after
     → (k : ℕ) → k < w.pages → is_some (get_or after k bare_page).copy ≡ has_page (with_page page cut.copied) k
 copied_more w cut page c pages after copying adds = λ k within. elim (cases_eq k page) [
   | inl e ↦
@@ -184,7 +184,7 @@ copied_more w cut page c pages after copying adds = λ k within. elim (cases_eq 
 abbrev pub has_copied : ℕ → OpenedCut → OpenedCut
 has_copied page cut = record cut { copied = with_page page cut.copied }
 
-added : (w : World) (cut : OpenedCut) (phase : Phase) (page : ℕ) (c : Copied) (pages after : CutBeside) → IsOrderly w → IsOrderly (with_cut w (has_copied page))
+added : (w : World) (cut : OpenedCut) (phase : Phase) (page : ℕ) (c : CopyParts) (pages after : CutBeside) → IsOrderly w → IsOrderly (with_cut w (has_copied page))
     → is_phase phase Copying ≡ true → (phase ≡ Copying → Adds page c pages.pages after.pages × IsSound (state_of w) cut.opening after.pages)
     → IsInPhase w cut phase pages → IsInPhase (with_cut w (has_copied page)) (has_copied page cut) phase after
 added w cut Closed page c pages after lawful next right adds stands = cc
@@ -266,7 +266,7 @@ close_phase : (w : World) (cut : OpenedCut) (phase : Phase) (pages after : CutBe
 close_phase w cut Closed pages after lawful freed next right all turns stands = cc
 close_phase w cut Sweeping pages after lawful freed next right all turns stands = cc
 close_phase w cut Copying pages after lawful freed next right all turns stands =
-    subst (IsGiven (with_cut w is_closed_now) (is_closed_now cut)) (sym (same_beside after (record { pages = pages.pages; roots = starts w }) turns.0 turns.1)) (record {
+    subst (IsGiven (with_cut w is_closed_now) (is_closed_now cut)) (sym (same_beside after (record { pages = pages.pages; starts = starts w }) turns.0 turns.1)) (record {
       keeps = (opening_stays w (with_cut w is_closed_now) cut.opening lawful next (inl refl) stands.keeps).lost;
       all = stands.all;
       doomed = subst (KeepsDoomed (with_cut w is_closed_now) cut.opening (starts w) pages.pages) (sym stands.unswept)
@@ -325,7 +325,7 @@ sweep_phase w cut Sweeping page slots pages after lawful next right may turns st
     subst (IsGiven (swept w page slots) (has_swept page cut)) (sym turns) (record {
       keeps = lost_stays w (swept w page slots) cut.opening next (inl refl) (freed_grows w (Sweep page) nothing (Freed slots)) stands.keeps;
       all = stands.all;
-      doomed = sweep_keeps_doomed w cut pages.roots pages.pages page slots next may stands.doomed;
+      doomed = sweep_keeps_doomed w cut pages.starts pages.pages page slots next may stands.doomed;
       safe = stands.safe;
     })
 
@@ -434,13 +434,13 @@ event_stands w call note reply pages after stands may turns =
 
 -- with a standing cut, a sweep of the doomed slots of a page is allowed
 swept_phase : (w : World) (cut : OpenedCut) (phase : Phase) (page slots : ℕ) (pages : CutBeside) → IsOrderly w → is_phase phase Sweeping ≡ true → has_page cut.swept page ≡ false
-    → AreDoomedOn pages.roots pages.pages page slots → IsInPhase w cut phase pages → MayFree w cut.opening page slots
+    → AreDoomedOn pages.starts pages.pages page slots → IsInPhase w cut phase pages → MayFree w cut.opening page slots
 swept_phase w cut Copying page slots pages lawful right unswept doomed stands = cc
 swept_phase w cut Closed page slots pages lawful right unswept doomed stands = cc
-swept_phase w cut Sweeping page slots pages lawful right unswept doomed stands = doomed_may_be_freed w cut pages.roots pages.pages page slots lawful stands.doomed unswept doomed
+swept_phase w cut Sweeping page slots pages lawful right unswept doomed stands = doomed_may_be_freed w cut pages.starts pages.pages page slots lawful stands.doomed unswept doomed
 
 pub doomed_sweep_is_allowed : (w : World) (page slots : ℕ) (note : Note) (pages : CutBeside) → IsStanding w pages → first_refusal w (Sweep page) note ≡ None
-    → AreDoomedOn pages.roots pages.pages page slots → AllowsReply w (Sweep page) note (Freed slots)
+    → AreDoomedOn pages.starts pages.pages page slots → AllowsReply w (Sweep page) note (Freed slots)
 doomed_sweep_is_allowed w page slots note pages stands may doomed = (may, by_cut w.cut may stands.cut)
   where
     by_cut : (o : Option OpenedCut) → first_met (broken w ∷ unwrap_or (option_map (λ cut. wrong_phase cut Sweeping ∷ page_cause w page ∷ already_swept cut page ∷ []) o) (Some NoCut ∷ [])) ≡ None

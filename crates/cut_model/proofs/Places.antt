@@ -63,17 +63,17 @@ and_not false b c h = cc
 
 -- where each place of a cut has one name, the slots in use in the settled image, neither born nor marked, are those of
 -- the doomed names
-pub doomed_names : (roots : List NameParts) (pages : List CutPage) (marks : ℕ → ℕ) (page slots : ℕ) (image : List SlotParts)
+pub doomed_names : (from : List NameParts) (pages : List CutPage) (marks : ℕ → ℕ) (page slots : ℕ) (image : List SlotParts)
     → ((a b : ObjectParts) → In a (cut_graph pages) → In b (cut_graph pages) → a.name.page ≡ b.name.page → a.name.slot ≡ b.name.slot → a.name ≡ b.name)
     → page < length pages → settled_image (get_or pages page bare_page) ≡ Some image
-    → AreMarks roots pages marks → ((slot : ℕ) → has_slot slots slot ≡ is_doomed image (get_or pages page bare_page).born (marks page) slot)
-    → AreDoomedOn roots pages page slots
-doomed_names roots pages marks page slots image once within settled marked is = λ slot. (
+    → AreMarks from pages marks → ((slot : ℕ) → has_slot slots slot ≡ is_doomed image (get_or pages page bare_page).born (marks page) slot)
+    → AreDoomedOn from pages page slots
+doomed_names from pages marks page slots image once within settled marked is = λ slot. (
   λ h.
       let a = and_not (is_used image slot) (has_slot (get_or pages page bare_page).born slot) (has_slot (marks page) slot) (sym (is slot) ∙ h) in
       let o : ObjectParts = object_in page slot (get_or image slot no_slot) in
       let low = used_within image slot a.0 in
-      let doomed : IsDoomed roots pages o.name = record {
+      let doomed : IsDoomed from pages o.name = record {
         image = image;
         object = o;
         within = within;
@@ -87,7 +87,7 @@ doomed_names roots pages marks page slots image once within settled marked is = 
   λ n. is slot ∙ (doomed_here slot n.0 n.1 n.2 n.3),
 )
   where
-    unmarked_here : (name : NameParts) (o : ObjectParts) → In o (cut_graph pages) → o.name ≡ name → name.page ≡ page → ¬ IsMarked roots pages name → has_slot (marks page) name.slot ≡ false
+    unmarked_here : (name : NameParts) (o : ObjectParts) → In o (cut_graph pages) → o.name ≡ name → name.page ≡ page → ¬ IsMarked from pages name → has_slot (marks page) name.slot ≡ false
     unmarked_here name o m named on un = elim (cases_Bool (has_slot (marks page) name.slot)) [
       | inr e ↦ e
       | inl e ↦
@@ -97,10 +97,10 @@ doomed_names roots pages marks page slots image once within settled marked is = 
           let p : q.name.page ≡ o.name.page = ap (λ (k : NameParts). k.page) there.2 ∙ (n.2 ∙ (sym on ∙ sym (ap (λ (k : NameParts). k.page) named))) in
           let s : q.name.slot ≡ o.name.slot = ap (λ (k : NameParts). k.slot) there.2 ∙ (n.3 ∙ sym (ap (λ (k : NameParts). k.slot) named)) in
           let same : n.0 ≡ name = sym there.2 ∙ (once q o there.1 m p s ∙ named) in
-          absurd (un (subst (IsMarked roots pages) same n.1))
+          absurd (un (subst (IsMarked from pages) same n.1))
     ]
 
-    doomed_here : (slot : ℕ) (name : NameParts) → IsDoomed roots pages name → name.page ≡ page → name.slot ≡ slot → is_doomed image (get_or pages page bare_page).born (marks page) slot ≡ true
+    doomed_here : (slot : ℕ) (name : NameParts) → IsDoomed from pages name → name.page ≡ page → name.slot ≡ slot → is_doomed image (get_or pages page bare_page).born (marks page) slot ≡ true
     doomed_here slot name d on at =
         let e : settled_image (get_or pages page bare_page) ≡ Some d.image = subst (λ k. settled_image (get_or pages k bare_page) ≡ Some d.image) on d.settled in
         let same : d.image ≡ image = cc in
@@ -116,9 +116,9 @@ doomed_names roots pages marks page slots image once within settled marked is = 
         (and_from (not (has_slot (get_or pages page bare_page).born slot)) (not (has_slot (marks page) slot)) (ap not unborn) (ap not unmarked))
 
 -- so it is in a sound cut
-pub doomed_slots : (opening : Opening) (roots : List NameParts) (pages : List CutPage) (marks : ℕ → ℕ) (page slots : ℕ) (image : List SlotParts)
+pub doomed_slots : (opening : Opening) (from : List NameParts) (pages : List CutPage) (marks : ℕ → ℕ) (page slots : ℕ) (image : List SlotParts)
     → ((o : ObjectParts) → In o (cut_graph pages) → IsSafeObject opening o) → page < length pages → settled_image (get_or pages page bare_page) ≡ Some image
-    → AreMarks roots pages marks → ((slot : ℕ) → has_slot slots slot ≡ is_doomed image (get_or pages page bare_page).born (marks page) slot)
-    → AreDoomedOn roots pages page slots
-doomed_slots opening roots pages marks page slots image safe within settled marked is =
-    doomed_names roots pages marks page slots image (λ a b m n p s. one_name opening a b (safe a m) (safe b n) p s) within settled marked is
+    → AreMarks from pages marks → ((slot : ℕ) → has_slot slots slot ≡ is_doomed image (get_or pages page bare_page).born (marks page) slot)
+    → AreDoomedOn from pages page slots
+doomed_slots opening from pages marks page slots image safe within settled marked is =
+    doomed_names from pages marks page slots image (λ a b m n p s. one_name opening a b (safe a m) (safe b n) p s) within settled marked is

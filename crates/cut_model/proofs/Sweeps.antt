@@ -76,9 +76,9 @@ list_all_from p [] h = refl
 list_all_from p (x ∷ xs) h = and_from (p x) (list_all p xs) (h x (inl refl)) (list_all_from p xs (λ y m. h y (inr m)))
 
 -- a sweep that frees the doomed slots of a page is allowed
-pub doomed_may_be_freed : (w : World) (cut : OpenedCut) (roots : List NameParts) (pages : List CutPage) (page slots : ℕ) → IsOrderly w → KeepsDoomed w cut.opening roots pages cut.swept
-    → has_page cut.swept page ≡ false → AreDoomedOn roots pages page slots → MayFree w cut.opening page slots
-doomed_may_be_freed w cut roots pages page slots lawful keeps unswept doomed = record {
+pub doomed_may_be_freed : (w : World) (cut : OpenedCut) (from : List NameParts) (pages : List CutPage) (page slots : ℕ) → IsOrderly w → KeepsDoomed w cut.opening from pages cut.swept
+    → has_page cut.swept page ≡ false → AreDoomedOn from pages page slots → MayFree w cut.opening page slots
+doomed_may_be_freed w cut from pages page slots lawful keeps unswept doomed = record {
   one_each = list_all_from (λ slot. length (filter (is_unfreed w.freed) (objects_at w.graph page slot)) == 1) (slots_in slots) (λ slot m.
       let a = in_filter (has_slot slots) (below MOST_SLOTS) slot m in
       let n = (doomed slot).0 a.1 in
@@ -115,9 +115,9 @@ doomed_may_be_freed w cut roots pages page slots lawful keeps unswept doomed = r
 -- ---- events after the closing
 
 -- what isn't freed by this event on a page that isn't swept stays as it was
-pub doomed_stays : (w after : World) (opening : Opening) (roots : List NameParts) (pages : List CutPage) (swept : List ℕ) → IsOrderly after → Follows w after → after.freed ≡ w.freed
-    → KeepsDoomed w opening roots pages swept → KeepsDoomed after opening roots pages swept
-doomed_stays w after opening roots pages swept lawful follows same keeps = record {
+pub doomed_stays : (w after : World) (opening : Opening) (from : List NameParts) (pages : List CutPage) (swept : List ℕ) → IsOrderly after → Follows w after → after.freed ≡ w.freed
+    → KeepsDoomed w opening from pages swept → KeepsDoomed after opening from pages swept
+doomed_stays w after opening from pages swept lawful follows same keeps = record {
   safe = λ name doomed unswept.
       let safe = keeps.safe name doomed unswept in record {
         there = name_stays w after name follows safe.there;
@@ -142,9 +142,9 @@ has-with_page page other pages h = by_test (has_page pages page) refl h
     ]
 
 -- a sweep of a page leaves the others, and frees what was lost on it
-pub sweep_keeps_doomed : (w : World) (cut : OpenedCut) (roots : List NameParts) (pages : List CutPage) (page slots : ℕ) → IsOrderly (swept w page slots) → MayFree w cut.opening page slots
-    → KeepsDoomed w cut.opening roots pages cut.swept → KeepsDoomed (swept w page slots) cut.opening roots pages (with_page page cut.swept)
-sweep_keeps_doomed w cut roots pages page slots lawful may keeps = record {
+pub sweep_keeps_doomed : (w : World) (cut : OpenedCut) (from : List NameParts) (pages : List CutPage) (page slots : ℕ) → IsOrderly (swept w page slots) → MayFree w cut.opening page slots
+    → KeepsDoomed w cut.opening from pages cut.swept → KeepsDoomed (swept w page slots) cut.opening from pages (with_page page cut.swept)
+sweep_keeps_doomed w cut from pages page slots lawful may keeps = record {
   safe = λ name doomed unswept.
       let p = has-with_page page name.page cut.swept unswept in
       let safe = keeps.safe name doomed p.0 in record {

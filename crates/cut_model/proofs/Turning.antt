@@ -11,11 +11,11 @@ use Rattle.store_model.specs.Worlds.{World, OpenedCut, Event, transaction, start
 use Rattle.store_model.specs.Replies.{Allows}
 use Rattle.store_model.specs.Steps.{next}
 use Rattle.store_model.specs.States.{state_of}
-use Rattle.cut_model.specs.CutPages.{Copied, bare_page}
+use Rattle.cut_model.specs.CutPages.{CopyParts, bare_page}
 use Rattle.cut_model.specs.Sound.{IsFitCopy}
 use Rattle.cut_model.specs.Frames.{copy_now}
 use Rattle.cut_model.specs.Changes.{IsCutAfter, Adds, ChangesBy}
-use Rattle.cut_model.specs.Standing.{CutBeside, roots_after, IsStanding, TurnsIn, TurnsBeside, TurnsOf, Turns}
+use Rattle.cut_model.specs.Standing.{CutBeside, starts_after, IsStanding, TurnsIn, TurnsBeside, TurnsOf, Turns}
 use Rattle.cut_model.proofs.Phases.{event_stands}
 
 -- the calls that change the pages of a cut
@@ -27,12 +27,12 @@ changes_cut (HandIn page number seen) = true
 changes_cut Close = true
 changes_cut _ = false
 
-still_in : (w : World) (cut : OpenedCut) (phase : Phase) (call : Call) (pages : CutBeside) → ChangesBy w cut.opening call pages.pages pages.pages → pages.roots ≡ roots_after w call pages.roots → TurnsIn w cut phase call pages pages
+still_in : (w : World) (cut : OpenedCut) (phase : Phase) (call : Call) (pages : CutBeside) → ChangesBy w cut.opening call pages.pages pages.pages → pages.starts ≡ starts_after w call pages.starts → TurnsIn w cut phase call pages pages
 still_in w cut Copying call pages h k = (h, k)
 still_in w cut Closed call pages h k = refl
 still_in w cut Sweeping call pages h k = refl
 
-still : (w : World) (call : Call) (pages : CutBeside) → ((cut : OpenedCut) → ChangesBy w cut.opening call pages.pages pages.pages) → pages.roots ≡ roots_after w call pages.roots
+still : (w : World) (call : Call) (pages : CutBeside) → ((cut : OpenedCut) → ChangesBy w cut.opening call pages.pages pages.pages) → pages.starts ≡ starts_after w call pages.starts
     → MatchOption w.cut (pages ≡ pages) (TurnsBeside w call pages pages)
 still w call pages h k = by_cut w.cut
   where
@@ -55,26 +55,26 @@ turns_still w call reply pages h = still_of w call pages h
 
 -- a call on a cut that is copied
 turns_in : (w : World) (cut : OpenedCut) (call : Call) (pages after : CutBeside) → w.cut ≡ Some cut → cut.phase ≡ Copying → ChangesBy w cut.opening call pages.pages after.pages
-    → after.roots ≡ roots_after w call pages.roots
+    → after.starts ≡ starts_after w call pages.starts
     → MatchOption w.cut (after ≡ pages) (TurnsBeside w call pages after)
 turns_in w cut call pages after is phase changes same =
     subst (λ o. MatchOption o (after ≡ pages) (TurnsBeside w call pages after)) (sym is)
     (subst (λ p. TurnsIn w cut p call pages after) (sym phase) (changes, same))
 
-pub turns_copy : (w : World) (cut : OpenedCut) (page : ℕ) (pages after : CutBeside) → w.cut ≡ Some cut → cut.phase ≡ Copying → Adds page (copy_now w page) pages.pages after.pages → after.roots ≡ pages.roots
+pub turns_copy : (w : World) (cut : OpenedCut) (page : ℕ) (pages after : CutBeside) → w.cut ≡ Some cut → cut.phase ≡ Copying → Adds page (copy_now w page) pages.pages after.pages → after.starts ≡ pages.starts
     → TurnsOf w (Copy page) pages after
 turns_copy w cut page pages after is phase adds same = turns_in w cut (Copy page) pages after is phase adds same
 
-pub turns_hand : (w : World) (cut : OpenedCut) (page number seen : ℕ) (c : Copied) (pages after : CutBeside) → w.cut ≡ Some cut → cut.phase ≡ Copying
-    → IsFitCopy (state_of w) cut.opening page (get_or pages.pages page bare_page) c → Adds page c pages.pages after.pages → after.roots ≡ pages.roots → TurnsOf w (HandIn page number seen) pages after
+pub turns_hand : (w : World) (cut : OpenedCut) (page number seen : ℕ) (c : CopyParts) (pages after : CutBeside) → w.cut ≡ Some cut → cut.phase ≡ Copying
+    → IsFitCopy (state_of w) cut.opening page (get_or pages.pages page bare_page) c → Adds page c pages.pages after.pages → after.starts ≡ pages.starts → TurnsOf w (HandIn page number seen) pages after
 turns_hand w cut page number seen c pages after is phase fit adds same = turns_in w cut (HandIn page number seen) pages after is phase (c, fit, adds) same
 
-pub turns_commit : (w : World) (cut : OpenedCut) (t : ℕ) (pages after : CutBeside) → w.cut ≡ Some cut → cut.phase ≡ Copying → IsCutAfter w (transaction w t) pages.pages after.pages → after.roots ≡ pages.roots
+pub turns_commit : (w : World) (cut : OpenedCut) (t : ℕ) (pages after : CutBeside) → w.cut ≡ Some cut → cut.phase ≡ Copying → IsCutAfter w (transaction w t) pages.pages after.pages → after.starts ≡ pages.starts
     → TurnsOf w (Commit t) pages after
 turns_commit w cut t pages after is phase changes same = turns_in w cut (Commit t) pages after is phase changes same
 
-pub turns_close : (w : World) (cut : OpenedCut) (pages after : CutBeside) → w.cut ≡ Some cut → cut.phase ≡ Copying → after.pages ≡ pages.pages → after.roots ≡ starts w → TurnsOf w Close pages after
-turns_close w cut pages after is phase same roots = turns_in w cut Close pages after is phase same roots
+pub turns_close : (w : World) (cut : OpenedCut) (pages after : CutBeside) → w.cut ≡ Some cut → cut.phase ≡ Copying → after.pages ≡ pages.pages → after.starts ≡ starts w → TurnsOf w Close pages after
+turns_close w cut pages after is phase same from = turns_in w cut Close pages after is phase same from
 
 -- the law of each event, with words that don't unfold
 pub stands_after : (w : World) (e : Event) (pages after : CutBeside) → IsStanding w pages → Allows w e → Turns w e.entry.call e.entry.reply pages after

@@ -12,7 +12,7 @@ use Rattle.store_model.specs.Worlds.{World, Transaction, Opening, transaction, v
 use Rattle.store_model.specs.Causes.{has_page}
 use Rattle.store_model.specs.Images.{shown_in}
 use Rattle.store_model.specs.States.{state_of}
-use Rattle.cut_model.specs.CutPages.{Copied, CutPage, bare_page, with_copy, with_commit, with_born}
+use Rattle.cut_model.specs.CutPages.{CopyParts, CutPage, bare_page, with_copy, with_commit, with_born}
 use Rattle.cut_model.specs.Sound.{IsFitCopy}
 use Rattle.cut_model.specs.Frames.{copy_now}
 
@@ -45,14 +45,14 @@ GivesImages w call (Refused why) after = Unit {0}
 GivesImages w call reply after = GivesImagesBy w call after
 
 -- a copy of a page is added
-abbrev pub Adds : ℕ → Copied → List CutPage → List CutPage → Type 0
+abbrev pub Adds : ℕ → CopyParts → List CutPage → List CutPage → Type 0
 Adds page c pages after = (page < length pages) × (after ≡ slice_set pages page (with_copy c (slice_index_or pages page bare_page)))
 
 -- what a call that is answered does
 abbrev pub ChangesBy : World → Opening → Call → List CutPage → List CutPage → Type 0
 ChangesBy w opening (Commit t) pages after = IsCutAfter w (transaction w t) pages after
 ChangesBy w opening (Copy page) pages after = Adds page (copy_now w page) pages after
-ChangesBy w opening (HandIn page number seen) pages after = (c : Copied) × IsFitCopy (state_of w) opening page (slice_index_or pages page bare_page) c × Adds page c pages after
+ChangesBy w opening (HandIn page number seen) pages after = (c : CopyParts) × IsFitCopy (state_of w) opening page (slice_index_or pages page bare_page) c × Adds page c pages after
 ChangesBy w opening _ pages after = after ≡ pages
 
 abbrev pub Changes : World → Opening → Call → Reply → List CutPage → List CutPage → Type 0

@@ -9,20 +9,20 @@ use Rattle.object_graph.specs.Slots.{below}
 use Rattle.store_model.specs.Images.{objects_of}
 
 -- a copy of a page: its current image, its before-image where it was dirty, and the number of commits as it was taken
-pub record Copied : Type 0 where
+pub record CopyParts : Type 0 where
   pub current : List SlotParts
   pub before : Option (List SlotParts)
   pub moment : ℕ
 
 -- the image of a page after a commit, and that commit's number
-pub record Changed : Type 0 where
+pub record AfterImage : Type 0 where
   pub image : List SlotParts
   pub moment : ℕ
 
 -- what a cut has of a page
 pub record CutPage : Type 0 where
-  pub copy : Option Copied
-  pub after : Option Changed
+  pub copy : Option CopyParts
+  pub after : Option AfterImage
   pub born : ℕ
 
 -- a page of which the cut has nothing yet
@@ -30,11 +30,11 @@ abbrev pub bare_page : CutPage
 bare_page = record { copy = None; after = None; born = 0 }
 
 -- the committed image of a copy
-abbrev pub committed_image : Copied → List SlotParts
+abbrev pub committed_image : CopyParts → List SlotParts
 committed_image c = unwrap_or c.before c.current
 
 -- the settled image: after, else before, else current
-abbrev pub settled_with : Option Changed → Option Copied → Option (List SlotParts)
+abbrev pub settled_with : Option AfterImage → Option CopyParts → Option (List SlotParts)
 settled_with None copy = option_map committed_image copy
 settled_with (Some changed) copy = Some changed.image
 
@@ -46,24 +46,24 @@ abbrev pub images_of_before : Option (List SlotParts) → List (List SlotParts)
 images_of_before None = []
 images_of_before (Some image) = image ∷ []
 
-abbrev pub images_of_copy : Option Copied → List (List SlotParts)
+abbrev pub images_of_copy : Option CopyParts → List (List SlotParts)
 images_of_copy None = []
 images_of_copy (Some c) = c.current ∷ images_of_before c.before
 
-abbrev pub images_of_change : Option Changed → List (List SlotParts)
-images_of_change None = []
-images_of_change (Some a) = a.image ∷ []
+abbrev pub images_of_after : Option AfterImage → List (List SlotParts)
+images_of_after None = []
+images_of_after (Some a) = a.image ∷ []
 
 abbrev pub images_of : CutPage → List (List SlotParts)
-images_of p = images_of_change p.after ++ images_of_copy p.copy
+images_of p = images_of_after p.after ++ images_of_copy p.copy
 
 -- an after-image is kept beside a copy that was taken before it
-abbrev pub kept_beside : ℕ → Option Changed → Option Changed
+abbrev pub kept_beside : ℕ → Option AfterImage → Option AfterImage
 kept_beside moment None = None
 kept_beside moment (Some a) = if nat_lt moment a.moment then Some a else None
 
 -- a copy is added
-abbrev pub with_copy : Copied → CutPage → CutPage
+abbrev pub with_copy : CopyParts → CutPage → CutPage
 with_copy c p = record p { copy = Some c; after = kept_beside c.moment p.after }
 
 -- the objects in all images of a page, and of all pages: the graph of a cut

@@ -14,7 +14,7 @@ use Rattle.store_model.specs.Images.{no_slot, objects_of}
 use Rattle.cut_model.specs.CutPages.{CutPage, bare_page, settled_image, IsMarked}
 
 -- a name in use in the settled image of its page, neither born nor marked
-pub record IsDoomed (roots : List NameParts) (pages : List CutPage) (name : NameParts) : Type 0 where
+pub record IsDoomed (from : List NameParts) (pages : List CutPage) (name : NameParts) : Type 0 where
   pub image : List SlotParts
   pub object : ObjectParts
   pub within : name.page < length pages
@@ -22,7 +22,7 @@ pub record IsDoomed (roots : List NameParts) (pages : List CutPage) (name : Name
   pub shown : In object (objects_of name.page image)
   pub named : object.name ≡ name
   pub unborn : has_slot (slice_index_or pages name.page bare_page).born name.slot ≡ false
-  pub unmarked : ¬ IsMarked roots pages name
+  pub unmarked : ¬ IsMarked from pages name
 
 -- an unfreed name that was there as the cut opened and is out of reach
 pub record IsSafeToFree (w : World) (opening : Opening) (name : NameParts) : Type 0 where
@@ -32,19 +32,19 @@ pub record IsSafeToFree (w : World) (opening : Opening) (name : NameParts) : Typ
   pub out : IsOutOfReach w name
 
 -- on the pages that aren't swept each doomed name is safe to free, and what was lost and isn't freed is doomed there
-pub record KeepsDoomed (w : World) (opening : Opening) (roots : List NameParts) (pages : List CutPage) (swept : List ℕ) : Type 0 where
-  pub safe : (name : NameParts) → IsDoomed roots pages name → has_page swept name.page ≡ false → IsSafeToFree w opening name
-  pub lost : (name : NameParts) → IsLost opening name → IsTrue (not (is_freed w name)) → (has_page swept name.page ≡ false) × IsDoomed roots pages name
+pub record KeepsDoomed (w : World) (opening : Opening) (from : List NameParts) (pages : List CutPage) (swept : List ℕ) : Type 0 where
+  pub safe : (name : NameParts) → IsDoomed from pages name → has_page swept name.page ≡ false → IsSafeToFree w opening name
+  pub lost : (name : NameParts) → IsLost opening name → IsTrue (not (is_freed w name)) → (has_page swept name.page ≡ false) × IsDoomed from pages name
 
 -- the doomed slots of a page
 abbrev pub AreDoomedOn : List NameParts → List CutPage → ℕ → ℕ → Type 0
-AreDoomedOn roots pages page slots =
-    (slot : ℕ) → IsTrue (has_slot slots slot) ↔ ((name : NameParts) × IsDoomed roots pages name × (name.page ≡ page) × (name.slot ≡ slot))
+AreDoomedOn from pages page slots =
+    (slot : ℕ) → IsTrue (has_slot slots slot) ↔ ((name : NameParts) × IsDoomed from pages name × (name.page ≡ page) × (name.slot ≡ slot))
 
 -- the marks by their places: a slot is marked where a marked name stands in it
 abbrev pub AreMarks : List NameParts → List CutPage → (ℕ → ℕ) → Type 0
-AreMarks roots pages marks =
-    (page slot : ℕ) → IsTrue (has_slot (marks page) slot) ↔ ((name : NameParts) × IsMarked roots pages name × (name.page ≡ page) × (name.slot ≡ slot))
+AreMarks from pages marks =
+    (page slot : ℕ) → IsTrue (has_slot (marks page) slot) ↔ ((name : NameParts) × IsMarked from pages name × (name.page ≡ page) × (name.slot ≡ slot))
 
 -- a slot in use in an image
 abbrev pub is_used : List SlotParts → ℕ → Bool

@@ -6,7 +6,7 @@ use Rattle.store_model.specs.Images.{shown_in}
 use Rattle.store_model.specs.Steps.{opening_of}
 use Rattle.store_model.specs.Histories.{after}
 use Rattle.store_model.specs.Examples.{name_of, a_dirty_copy_outlives_an_abort, a_moved_pointer_is_seen}
-use Rattle.cut_model.specs.CutPages.{Copied, CutPage, bare_page, with_copy, with_commit}
+use Rattle.cut_model.specs.CutPages.{CopyParts, CutPage, bare_page, with_copy, with_commit}
 use Rattle.cut_model.specs.Frames.{copy_now}
 
 -- ---- a dirty copy
@@ -27,7 +27,7 @@ abbrev pub dirty_cut : List CutPage
 dirty_cut = with_copy (copy_now (dirty_at 7) 0) bare_page ∷ with_copy (copy_now (dirty_at 9) 1) bare_page ∷ []
 
 -- the same, with the copy of page 0 without its before-image
-abbrev pub without_before : Copied → Copied
+abbrev pub without_before : CopyParts → CopyParts
 without_before c = record c { before = None }
 
 abbrev pub lossy_cut : List CutPage

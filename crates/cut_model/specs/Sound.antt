@@ -13,7 +13,7 @@ use Rattle.store_model.specs.Worlds.{is_unfreed, is_old, IsLost}
 use Rattle.store_model.specs.States.{State, state_of, shown_by}
 use Rattle.cut_model.specs.States.{KeepsOpening, generation_at}
 use Rattle.store_model.specs.Images.{objects_of}
-use Rattle.cut_model.specs.CutPages.{Copied, CutPage, bare_page, committed_image, settled_image, images_of_copy, images_of}
+use Rattle.cut_model.specs.CutPages.{CopyParts, CutPage, bare_page, committed_image, settled_image, images_of_copy, images_of}
 
 -- an object in an image has the name of its place, and doesn't refer to what was lost, unless it was lost itself
 pub record IsSafeObject (opening : Opening) (o : ObjectParts) : Type 0 where
@@ -40,13 +40,13 @@ abbrev pub IsSound : State → Opening → List CutPage → Type 0
 IsSound s opening pages = (page : ℕ) → page < length pages → IsSoundPage s opening page (slice_index_or pages page bare_page)
 
 -- a copy of a page that has none yet is fit
-pub record IsFitCopy (s : State) (opening : Opening) (page : ℕ) (p : CutPage) (c : Copied) : Type 0 where
+pub record IsFitCopy (s : State) (opening : Opening) (page : ℕ) (p : CutPage) (c : CopyParts) : Type 0 where
   pub settled : (committed_image c ≡ shown_by s page) ⊎ IsSomeAnd p.after (λ a. c.moment < a.moment)
   pub images : AllByRecursion (IsSafeImage opening page) (images_of_copy (Some c))
   pub since : opening.commits ≤ c.moment
   pub moment : c.moment ≤ s.commits
 
-abbrev pub IsFit : State → Opening → ℕ → CutPage → Copied → Type 0
+abbrev pub IsFit : State → Opening → ℕ → CutPage → CopyParts → Type 0
 IsFit s opening page p c = IsTrue (is_some p.copy) ⊎ IsFitCopy s opening page p c
 
 -- a sound cut with a copy of every page of a lawful world

@@ -31,13 +31,13 @@ pub record IsCopying (w : World) (cut : OpenedCut) (pages : List CutPage) : Type
 -- what is kept beside a world: what its cut has of each page and, from the closing on, where the marks start
 pub record CutBeside : Type 0 where
   pub pages : List CutPage
-  pub roots : List NameParts
+  pub starts : List NameParts
 
 -- from the closing on, what its images doom is safe to free, and all that was lost is doomed or freed
 pub record IsGiven (w : World) (cut : OpenedCut) (b : CutBeside) : Type 0 where
   pub keeps : KeepsLost w cut.opening
   pub all : length b.pages ≡ w.pages
-  pub doomed : KeepsDoomed w cut.opening b.roots b.pages cut.swept
+  pub doomed : KeepsDoomed w cut.opening b.starts b.pages cut.swept
   pub safe : (o : ObjectParts) → In o (cut_graph b.pages) → IsSafeObject cut.opening o
 
 abbrev pub IsInPhase : World → OpenedCut → Phase → CutBeside → Type 0
@@ -55,16 +55,16 @@ pub record IsStanding (w : World) (b : CutBeside) : Type 0 where
 
 -- as nothing is copied yet
 abbrev pub nothing_copied : ℕ → CutBeside
-nothing_copied pages = record { pages = replicate pages bare_page; roots = [] }
+nothing_copied pages = record { pages = replicate pages bare_page; starts = [] }
 
 -- the marks start where the paths start as the cut closes
-abbrev pub roots_after : World → Call → List NameParts → List NameParts
-roots_after w Close roots = starts w
-roots_after w _ roots = roots
+abbrev pub starts_after : World → Call → List NameParts → List NameParts
+starts_after w Close from = starts w
+starts_after w _ from = from
 
 -- what an event does to the cut
 abbrev pub TurnsIn : World → OpenedCut → Phase → Call → CutBeside → CutBeside → Type 0
-TurnsIn w cut Copying call b after = ChangesBy w cut.opening call b.pages after.pages × (after.roots ≡ roots_after w call b.roots)
+TurnsIn w cut Copying call b after = ChangesBy w cut.opening call b.pages after.pages × (after.starts ≡ starts_after w call b.starts)
 TurnsIn w cut Closed call b after = after ≡ b
 TurnsIn w cut Sweeping call b after = after ≡ b
 

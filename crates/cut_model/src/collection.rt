@@ -41,21 +41,21 @@ pub fn one_name_stands_at_each_place()
 /// So the slots in use in a settled image that are neither born nor marked are those of the doomed
 /// names.
 pub fn doomed_slots_are_those_of_doomed_names()
-    ensures { (opening : Opening) (roots : List NameParts) (pages : List CutPage) (marks : ℕ → ℕ) (page slots : ℕ) (image : List SlotParts)
+    ensures { (opening : Opening) (from : List NameParts) (pages : List CutPage) (marks : ℕ → ℕ) (page slots : ℕ) (image : List SlotParts)
         → ((o : ObjectParts) → In o (cut_graph pages) → IsSafeObject opening o) → page < length pages → settled_image (slice_index_or pages page bare_page) ≡ Some image
-        → AreMarks roots pages marks → ((slot : ℕ) → has_slot slots slot ≡ is_doomed image (slice_index_or pages page bare_page).born (marks page) slot)
-        → AreDoomedOn roots pages page slots }
+        → AreMarks from pages marks → ((slot : ℕ) → has_slot slots slot ≡ is_doomed image (slice_index_or pages page bare_page).born (marks page) slot)
+        → AreDoomedOn from pages page slots }
 {}
 
 /// A sweep may free the doomed slots of a page.
 pub fn doomed_slots_may_be_freed()
     ensures { (w : World) (page slots : ℕ) (note : Note) (b : CutBeside) → IsStanding w b → first_refusal w (Sweep page) note ≡ None
-        → AreDoomedOn b.roots b.pages page slots → AllowsReply w (Sweep page) note (Freed slots) }
+        → AreDoomedOn b.starts b.pages page slots → AllowsReply w (Sweep page) note (Freed slots) }
 {}
 
 /// A sweep leaves the names doomed that are doomed on other pages, and all that was lost on its own is
 /// freed.
 pub fn a_sweep_leaves_the_rest_doomed()
-    ensures { (w : World) (cut : OpenedCut) (roots : List NameParts) (pages : List CutPage) (page slots : ℕ) → IsOrderly (swept w page slots) → MayFree w cut.opening page slots
-        → KeepsDoomed w cut.opening roots pages cut.swept → KeepsDoomed (swept w page slots) cut.opening roots pages (with_page page cut.swept) }
+    ensures { (w : World) (cut : OpenedCut) (from : List NameParts) (pages : List CutPage) (page slots : ℕ) → IsOrderly (swept w page slots) → MayFree w cut.opening page slots
+        → KeepsDoomed w cut.opening from pages cut.swept → KeepsDoomed (swept w page slots) cut.opening from pages (with_page page cut.swept) }
 {}

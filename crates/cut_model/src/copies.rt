@@ -9,7 +9,7 @@ ghost use Rattle.store_model.specs.Steps.{after_reply, opening_of};
 ghost use Rattle.store_model.specs.Lawful.{IsOrderly};
 ghost use Rattle.store_model.specs.States.{State, state_of, state_after};
 ghost use Rattle.cut_model.specs.States.{KeepsOpening};
-ghost use Rattle.cut_model.specs.CutPages.{CutPage, Copied, bare_page, with_copy};
+ghost use Rattle.cut_model.specs.CutPages.{CutPage, CopyParts, bare_page, with_copy};
 ghost use Rattle.cut_model.specs.Sound.{IsSound, IsFit, IsFitCopy};
 ghost use Rattle.cut_model.specs.Frames.{copy_now};
 ghost use Rattle.cut_model.specs.Changes.{IsCutAfter, Changes, GivesImages, ends_copying};
@@ -28,7 +28,7 @@ pub fn a_frame_is_a_fit_copy()
 /// A fit copy stays fit while the cut is copied, where each commit gives an after-image of each page
 /// that it wrote.
 pub fn a_fit_copy_stays_fit()
-    ensures { (w : World) (opening : Opening) (call : AnyCall) (note : Note) (reply : AnyReply) (pages after : List CutPage) (page : ℕ) (c : Copied) → IsOrderly w
+    ensures { (w : World) (opening : Opening) (call : AnyCall) (note : Note) (reply : AnyReply) (pages after : List CutPage) (page : ℕ) (c : CopyParts) → IsOrderly w
         → page < length pages → AllowsReply w call note reply → ends_copying call ≡ false → Changes w opening call reply pages after → GivesImages w call reply after
         → IsFit (state_of w) opening page (slice_index_or pages page bare_page) c
         → IsFit (state_of (after_reply w call note reply)) opening page (slice_index_or after page bare_page) c }
@@ -36,7 +36,7 @@ pub fn a_fit_copy_stays_fit()
 
 /// A fit copy of a page keeps the cut sound.
 pub fn a_fit_copy_keeps_the_cut_sound()
-    ensures { (s : State) (opening : Opening) (pages : List CutPage) (page : ℕ) (c : Copied) → IsSound s opening pages → page < length pages
+    ensures { (s : State) (opening : Opening) (pages : List CutPage) (page : ℕ) (c : CopyParts) → IsSound s opening pages → page < length pages
         → IsFitCopy s opening page (slice_index_or pages page bare_page) c → IsSound s opening (slice_set pages page (with_copy c (slice_index_or pages page bare_page))) }
 {}
 

@@ -36,9 +36,9 @@ writing_more all left later event a b c bytes w is line h =
       written = subst (λ (x : List ℕ). Appends a c x) (sym more) (Appends-trans a b c (text w.done) bytes w.written h);
     }
 
-pub writing_cut : (all left later : List Event) (event : Event) (a b c : Option (List ℕ)) (bytes : List ℕ) → Writing all left a b → left ≡ event ∷ later → bytes ≡ entry_text event.entry → AppendsFront b c bytes
+pub writing_begun : (all left later : List Event) (event : Event) (a b c : Option (List ℕ)) (bytes : List ℕ) → Writing all left a b → left ≡ event ∷ later → bytes ≡ entry_text event.entry → AppendsFront b c bytes
     → AppendsFront a c (text all)
-writing_cut all left later event a b c bytes w is line h = record {
+writing_begun all left later event a b c bytes w is line h = record {
   front = text w.done ++ h.front;
   rest = h.rest ++ text later;
   whole = ap text (w.split ∙ ap (λ (l : List Event). w.done ++ l) is) ∙ (text_append w.done (event ∷ later)

@@ -11,7 +11,7 @@ use Rattle.script_lang.specs.declared.line.LaneLine.{LaneLine}
 use Rattle.script_lang.specs.Script.{lines_of}
 use Rattle.store_model.specs.Worlds as model
 use Rattle.store_model.specs.Worlds.{World}
-use Rattle.store_model.specs.Lanes.{moments}
+use Rattle.store_model.specs.Lanes.{world_events}
 use Rattle.store_model.specs.Lawful.{IsLawful}
 use Rattle.store_model.specs.Texts.{chronicle_text}
 use Rattle.turn_lock.specs.Lists.{times, places}
@@ -26,7 +26,7 @@ use Rattle.store_lanes.specs.Lanes.{LanesRan}
 use Rattle.store_lanes.specs.Owned.{has}
 use Rattle.store_lanes.specs.Served.{FollowsTo, Begins}
 use Rattle.store_lanes.specs.declared.lane.TheConstants.{LANES}
-use Rattle.store_lanes.proofs.Owned.{moment_at, has_times, times_places, part-all, length-moments}
+use Rattle.store_lanes.proofs.Owned.{world_event_at, has_times, times_places, part-all, length-world_events}
 use Rattle.store_run.specs.Ran.{EndsBy}
 use Rattle.store_run.specs.Writing.{AppendsFront}
 use Rattle.store_run.specs.declared.status.Status.{Status}
@@ -83,7 +83,7 @@ module _ {D : Type 0} (disks : DiskOf D) where
       let some = times_places p 0 (length seat.seen - 0) (omega arith) (omega (arith, lt, same)) in let e = owned p in has_times p seat.own (omega (arith, some, e))) in
       record {
         of_lanes = all_at (λ (e : model.Event). (1 ≤ e.entry.lane) × (e.entry.lane ≤ 16)) (history seat.seen) (λ p e at.
-            (let m = moment_at w (history seat.seen) p e at in
+            (let m = world_event_at w (history seat.seen) p e at in
             let k = ran.owns.lanes p m.0 (owns p (slice_get_within (history seat.seen) p e at)) m.2 in
             subst (λ (d : model.Event). (1 ≤ d.entry.lane) × (d.entry.lane ≤ 16)) m.1 k));
         each = λ lane low high. (let went = ran.each lane low high said says in record {
@@ -92,8 +92,8 @@ module _ {D : Type 0} (disks : DiskOf D) where
           split = went.split;
           ended = went.ended;
           follows = λ known. subst (FollowsTo w.pages lane went.past went.future)
-              (part-all seat.own lane 0 (moments w (history seat.seen)) (λ i lt.
-              let l = length-moments w (history seat.seen) in subst (λ (k : ℕ). has k seat.own ≡ true) (sym (zero-add i)) (owns i (omega (arith, lt, l)))))
+              (part-all seat.own lane 0 (world_events w (history seat.seen)) (λ i lt.
+              let l = length-world_events w (history seat.seen) in subst (λ (k : ℕ). has k seat.own ≡ true) (sym (zero-add i)) (owns i (omega (arith, lt, l)))))
               (went.follows known);
         });
       }
@@ -117,9 +117,9 @@ module _ {D : Type 0} (disks : DiskOf D) where
   end_written first new lines true (Some count) chronicle a b kept follow is written =
       record { chronicle = chronicle; kept = kept; is_end = tt; follow = follow; written = written; ends = ap is_some is }
 
-  pub end_cut : (first new : Seen D) (lines : List (List ℕ)) (whole : Bool) (chronicle : List Event) (a b : Option (List ℕ)) → IsKept disks first new chronicle
+  pub end_begun : (first new : Seen D) (lines : List (List ℕ)) (whole : Bool) (chronicle : List Event) (a b : Option (List ℕ)) → IsKept disks first new chronicle
       → Followed first lines whole chronicle → AppendsFront a b (chronicle_text (history chronicle)) → LanesEnded disks WriteFault first new lines a b
-  end_cut first new lines whole chronicle a b kept follow written = record {
+  end_begun first new lines whole chronicle a b kept follow written = record {
     chronicle = chronicle;
     kept = kept;
     is_end = tt;

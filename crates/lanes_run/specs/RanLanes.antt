@@ -6,7 +6,7 @@ use Rattle.disk_trait.specs.declared.disk.Disk.{Ghosts as DiskOf}
 use Rattle.store_model.specs.Worlds.{World, Event}
 use Rattle.store_model.specs.Faults.{FaultsAscend}
 use Rattle.store_model.specs.Histories.{after, IsLegal}
-use Rattle.store_model.specs.Lanes.{moments, moments_of_lane}
+use Rattle.store_model.specs.Lanes.{world_events, events_of_lane}
 use Rattle.store_model.specs.Texts.{chronicle_text}
 use Rattle.script_lang.specs.declared.line.LaneLine.{LaneLine}
 use Rattle.cut_core.specs.Starts.{IsJustOpened}
@@ -29,7 +29,7 @@ pub record LaneFollows (known : Type 0) (w : World) (lane : ℕ) (whole : Bool) 
   pub future : List LaneLine
   pub split : said ≡ past ++ future
   pub ended : IsTrue whole → future ≡ []
-  pub follows : known → FollowsTo w.pages lane past future (moments_of_lane lane (moments w history))
+  pub follows : known → FollowsTo w.pages lane past future (events_of_lane lane (world_events w history))
 
 -- each event is one of a lane, 1 to 16, and each lane's events follow its lines
 pub record LanesFollow (known : Type 0) (w : World) (whole : Bool) (said : List LaneLine) (history : List Event) : Type 0 where

@@ -17,7 +17,7 @@ use Rattle.store_model.proofs.Cuts.{below_bound}
 use Rattle.store_model.proofs.Flats.{in_flat, in_objects_of, objects_of_in}
 use Rattle.page_image.specs.Slots.{fresh_slot}
 use Rattle.page_image.specs.Pages.{PageParts, slot_at, object_at, has_name}
-use Rattle.cut_model.specs.CutPages.{Copied, Changed, CutPage, images_of_before, images_of_copy, images_of_change, images_of, objects_on, cut_graph}
+use Rattle.cut_model.specs.CutPages.{CopyParts, AfterImage, CutPage, images_of_before, images_of_copy, images_of_after, images_of, objects_on, cut_graph}
 use Rattle.cut_model.proofs.CutGraphs.{in_cut_graph}
 use Rattle.cut_builder.specs.CutParts.{page_of, before_of, image_of, as_page}
 use Rattle.mark_pool.specs.Walks.{is_in}
@@ -27,7 +27,7 @@ use Rattle.mark_pool.specs.Walks.{is_in}
 abbrev IsNumbered : CutPage → List SlotParts → Type 0
 IsNumbered p image = (which : ℕ) × (which < 3) × (image_of p which ≡ Some image)
 
-number_before : (c : Copied) (after : Option Changed) (born : ℕ) (image : List SlotParts) (before : Option (List SlotParts)) → c.before ≡ before → In image (images_of_before before)
+number_before : (c : CopyParts) (after : Option AfterImage) (born : ℕ) (image : List SlotParts) (before : Option (List SlotParts)) → c.before ≡ before → In image (images_of_before before)
     → IsNumbered (record { copy = Some c; after = after; born = born }) image
 number_before c after born image None e m = absurd m
 number_before c after born image (Some b) e m = elim m [
@@ -35,7 +35,7 @@ number_before c after born image (Some b) e m = elim m [
   | inr z ↦ absurd z
 ]
 
-number_copy : (copy : Option Copied) (after : Option Changed) (born : ℕ) (image : List SlotParts) → In image (images_of_copy copy)
+number_copy : (copy : Option CopyParts) (after : Option AfterImage) (born : ℕ) (image : List SlotParts) → In image (images_of_copy copy)
     → IsNumbered (record { copy = copy; after = after; born = born }) image
 number_copy None after born image m = absurd m
 number_copy (Some c) after born image m = elim m [
@@ -43,7 +43,7 @@ number_copy (Some c) after born image m = elim m [
   | inr r ↦ number_before c after born image c.before refl r
 ]
 
-number_change : (copy : Option Copied) (after : Option Changed) (born : ℕ) (image : List SlotParts) → In image (images_of_change after ++ images_of_copy copy)
+number_change : (copy : Option CopyParts) (after : Option AfterImage) (born : ℕ) (image : List SlotParts) → In image (images_of_after after ++ images_of_copy copy)
     → IsNumbered (record { copy = copy; after = after; born = born }) image
 number_change copy None born image m = number_copy copy None born image m
 number_change copy (Some a) born image m = elim m [
@@ -54,13 +54,13 @@ number_change copy (Some a) born image m = elim m [
 number_of_image : (p : CutPage) (image : List SlotParts) → In image (images_of p) → IsNumbered p image
 number_of_image p image m = number_change p.copy p.after p.born image m
 
-chosen : (current before after : Bool) (copy : Option Copied) (change : Option Changed) (image : List SlotParts)
+chosen : (current before after : Bool) (copy : Option CopyParts) (change : Option AfterImage) (image : List SlotParts)
     → (if current then option_map (λ c. c.current) copy else (if before then before_of copy else (if after then option_map (λ a. a.image) change else None))) ≡ Some image
-    → In image (images_of_change change ++ images_of_copy copy)
-chosen true before after (Some c) change image e = append_right (images_of_change change) (images_of_copy (Some c)) image (inl (let q : c.current ≡ image = cc in sym q))
+    → In image (images_of_after change ++ images_of_copy copy)
+chosen true before after (Some c) change image e = append_right (images_of_after change) (images_of_copy (Some c)) image (inl (let q : c.current ≡ image = cc in sym q))
 chosen true before after None change image e = cc
 chosen false true after (Some c) change image e =
-    append_right (images_of_change change) (images_of_copy (Some c)) image (inr (subst (λ b. In image (images_of_before b)) (sym e) (inl refl)))
+    append_right (images_of_after change) (images_of_copy (Some c)) image (inr (subst (λ b. In image (images_of_before b)) (sym e) (inl refl)))
 chosen false true after None change image e = cc
 chosen false false true copy (Some a) image e = inl (let q : a.image ≡ image = cc in sym q)
 chosen false false true copy None image e = cc

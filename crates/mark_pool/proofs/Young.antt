@@ -11,7 +11,7 @@ use Rattle.object_graph.specs.SlotParts.{SlotParts}
 use Rattle.object_graph.specs.ObjectParts.{ObjectParts}
 use Rattle.object_graph.proofs.Members.{In, in_append, append_left, append_right}
 use Rattle.object_graph.proofs.Paths.{name_of}
-use Rattle.cut_model.specs.CutPages.{Changed, CutPage, bare_page, images_of, images_of_change, images_of_copy, images_of_before, kept_beside, with_copy, with_commit, cut_graph}
+use Rattle.cut_model.specs.CutPages.{AfterImage, CutPage, bare_page, images_of, images_of_after, images_of_copy, images_of_before, kept_beside, with_copy, with_commit, cut_graph}
 use Rattle.cut_model.proofs.Openings.{get-replicate_same}
 use Rattle.page_image.specs.Pages.{PageParts}
 use Rattle.page_image.specs.declared.page_copy.PageCopy.{PageCopy}
@@ -45,11 +45,11 @@ replaced pages page p within young new = record {
       (λ n. young.each k image (subst (λ (q : CutPage). In image (images_of q)) (get_or-set_other pages page k p bare_page n) m));
 }
 
-kept_in : (keep : Bool) (a : Changed) (image : List SlotParts) → In image (images_of_change (if keep then Some a else None)) → In image (images_of_change (Some a))
+kept_in : (keep : Bool) (a : AfterImage) (image : List SlotParts) → In image (images_of_after (if keep then Some a else None)) → In image (images_of_after (Some a))
 kept_in true a image m = m
 kept_in false a image m = absurd m
 
-kept_change : (moment : ℕ) (after : Option Changed) (image : List SlotParts) → In image (images_of_change (kept_beside moment after)) → In image (images_of_change after)
+kept_change : (moment : ℕ) (after : Option AfterImage) (image : List SlotParts) → In image (images_of_after (kept_beside moment after)) → In image (images_of_after after)
 kept_change moment None image m = absurd m
 kept_change moment (Some a) image m = kept_in (nat_lt moment a.moment) a image m
 
@@ -65,19 +65,19 @@ young_copy : (pages : List CutPage) (page : ℕ) (c : PageCopy) → page < lengt
     → AreYoung (set pages page (with_copy (copied_of c) (page_of pages page)))
 young_copy pages page c within young is =
     let p : CutPage = page_of pages page in
-    replaced pages page (with_copy (copied_of c) p) within young (λ image m. elim (in_append (images_of_change (kept_beside c.moment p.after)) (images_of_copy (Some (copied_of c))) image m) [
-      | inl a ↦ young.each page image (append_left (images_of_change p.after) (images_of_copy p.copy) image (kept_change c.moment p.after image a))
+    replaced pages page (with_copy (copied_of c) p) within young (λ image m. elim (in_append (images_of_after (kept_beside c.moment p.after)) (images_of_copy (Some (copied_of c))) image m) [
+      | inl a ↦ young.each page image (append_left (images_of_after p.after) (images_of_copy p.copy) image (kept_change c.moment p.after image a))
       | inr b ↦ elim b [
         | inl e ↦ subst IsYoung (sym e) is.current
         | inr r ↦ before_young c.before image is.before (in_before (copied_of c).before image r)
       ]
     ])
 
-early_kept : (keep : Bool) (a : Changed) → a.moment < 1 → IfSome (if keep then Some a else None) (λ (x : Changed). x.moment < 1)
+early_kept : (keep : Bool) (a : AfterImage) → a.moment < 1 → IfSome (if keep then Some a else None) (λ (x : AfterImage). x.moment < 1)
 early_kept true a h = h
 early_kept false a h = tt
 
-early_change : (moment : ℕ) (after : Option Changed) → IfSome after (λ a. a.moment < 1) → IfSome (kept_beside moment after) (λ a. a.moment < 1)
+early_change : (moment : ℕ) (after : Option AfterImage) → IfSome after (λ a. a.moment < 1) → IfSome (kept_beside moment after) (λ a. a.moment < 1)
 early_change moment None h = tt
 early_change moment (Some a) h = early_kept (nat_lt moment a.moment) a h
 
@@ -99,7 +99,7 @@ young_after pages page moment born after within young new =
     let p : CutPage = page_of pages page in
     replaced pages page (with_commit after moment born p) within young (λ image m. elim m [
       | inl e ↦ subst IsYoung (sym e) new
-      | inr r ↦ young.each page image (append_right (images_of_change p.after) (images_of_copy p.copy) image r)
+      | inr r ↦ young.each page image (append_right (images_of_after p.after) (images_of_copy p.copy) image r)
     ])
 
 pub changed_names : (cut : CutParts) (pages moment : ℕ) (image : PageParts) → image.number < length cut.pages → IsYoungCut cut pages → IsYoung image.slots

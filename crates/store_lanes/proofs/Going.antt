@@ -8,7 +8,7 @@ use Rattle.object_graph.specs.declared.memory.Memory.{Memory}
 use Rattle.disk_trait.specs.declared.disk.Disk.{Ghosts as DiskOf}
 use Rattle.store_model.specs.Worlds as model
 use Rattle.store_model.specs.Worlds.{World}
-use Rattle.store_model.specs.Lanes.{Moment, moments, Wish, Serves, FollowsLane, IsOwnLine}
+use Rattle.store_model.specs.Lanes.{WorldEvent, world_events, Wish, Serves, FollowsLane, IsOwnLine}
 use Rattle.script_lang.specs.declared.line.Line.{Line}
 use Rattle.script_lang.specs.declared.line.LaneLine.{LaneLine}
 use Rattle.script_lang.specs.Script.{SaysInLane}
@@ -43,11 +43,11 @@ lines_other pages lane [] s other = let none : List (List Wish) = [] in ap (λ (
 lines_other pages lane (t ∷ past) s other =
     cond_keep (t.lane == lane) (wishes_of pages t.line) (lines_of_lane pages lane (past ++ s ∷ [])) (lines_of_lane pages lane past) (lines_other pages lane past s other)
 
--- the moments of one line more
-follows_more : (lines : List (List Wish)) (wishes : List Wish) (ms line : List Moment) → FollowsLane lines ms → Serves wishes line [] → IsOwnLine line → FollowsLane (lines ++ wishes ∷ []) (ms ++ line)
-follows_more [] wishes ms line f serves own = (line, [], ap (λ (x : List Moment). x ++ line) f ∙ sym (append-nil line), serves, own, refl)
+-- the events of one line more
+follows_more : (lines : List (List Wish)) (wishes : List Wish) (ms line : List WorldEvent) → FollowsLane lines ms → Serves wishes line [] → IsOwnLine line → FollowsLane (lines ++ wishes ∷ []) (ms ++ line)
+follows_more [] wishes ms line f serves own = (line, [], ap (λ (x : List WorldEvent). x ++ line) f ∙ sym (append-nil line), serves, own, refl)
 follows_more (first ∷ lines) wishes ms line f serves own =
-    (f.0, f.1 ++ line, ap (λ (x : List Moment). x ++ line) f.2 ∙ append_assoc f.0 f.1 line, f.3, f.4, follows_more lines wishes f.1 line f.5 serves own)
+    (f.0, f.1 ++ line, ap (λ (x : List WorldEvent). x ++ line) f.2 ∙ append_assoc f.0 f.1 line, f.3, f.4, follows_more lines wishes f.1 line f.5 serves own)
 
 -- what the next line says
 record Said (line : List ℕ) (left : List (List ℕ)) (future : List LaneLine) : Type 0 where
@@ -72,7 +72,7 @@ none_has p own none h = absurd (let clash : false ≡ true = ap (has p) (sym non
 owns_none : (w : World) (low high : ℕ) (own : List ℕ) (events : List model.Event) → own ≡ [] → OwnsLanes w low high own events
 owns_none w low high own events none = record { below = λ p h. none_has p own none h; lanes = λ p m h g. none_has p own none h }
 
-part_none : (own : List ℕ) (lane : ℕ) (ms : List Moment) → own ≡ [] → part own lane 0 ms ≡ []
+part_none : (own : List ℕ) (lane : ℕ) (ms : List WorldEvent) → own ≡ [] → part own lane 0 ms ≡ []
 part_none own lane ms none = part-none own lane 0 ms (λ p le h. none_has p own none h)
 
 nothing_begun : (pages lane : ℕ) (future : List LaneLine) → Begins pages lane future []
@@ -89,7 +89,7 @@ module _ {D : Type 0} (disks : DiskOf D) (first : Seen D) where
   pub going_start : (all : List (List ℕ)) (lane : ℕ) (seat : AtDesk D) → seat.own ≡ [] → LaneGoes disks first all all lane seat
   going_start all lane seat none = record {
     owns = owns_none w lane lane seat.own (history seat.seen) none;
-    goes = λ said ahead. record { past = []; future = said; split = refl; ahead = ahead; follows = λ known. part_none seat.own lane (moments w (history seat.seen)) none };
+    goes = λ said ahead. record { past = []; future = said; split = refl; ahead = ahead; follows = λ known. part_none seat.own lane (world_events w (history seat.seen)) none };
   }
 
   going_passed : (all left : List (List ℕ)) (line : List ℕ) (lane : ℕ) (old new : AtDesk D) → LaneGoes disks first all (line ∷ left) lane old → LinePassed disks first lane line old new → LaneGoes disks first all left lane new
@@ -170,7 +170,7 @@ module _ {D : Type 0} (disks : DiskOf D) (first : Seen D) where
     future = said;
     split = refl;
     ended = ended;
-    follows = λ known. record { done = []; begun = []; split = part_none seat.own lane (moments w (history seat.seen)) none; follows = refl; begins = nothing_begun w.pages lane said };
+    follows = λ known. record { done = []; begun = []; split = part_none seat.own lane (world_events w (history seat.seen)) none; follows = refl; begins = nothing_begun w.pages lane said };
   }
 
   pub lanes_none : (all : List (List ℕ)) (whole : Bool) (seat : AtDesk D) → seat.own ≡ [] → LanesRan disks first all 1 0 whole seat
@@ -203,10 +203,10 @@ module _ {D : Type 0} (disks : DiskOf D) (first : Seen D) where
       let ro = owns_grown w 1 n one.own (history one.seen) (history both.seen) r.owns h_before in
       let so = owns_grown w (n + 1) (n + 1) other.own (history other.seen) (history both.seen) s.owns h_beside in
       let first_part = (λ (k : ℕ) (le : k ≤ n). part-first w n k one.own other.own (history both.seen) so le
-      ∙ (ap (λ (h : List model.Event). part one.own k 0 (moments w h)) h_before.1 ∙ part-grown w one.own k (history one.seen) h_before.0 r.owns.below)) in
+      ∙ (ap (λ (h : List model.Event). part one.own k 0 (world_events w h)) h_before.1 ∙ part-grown w one.own k (history one.seen) h_before.0 r.owns.below)) in
       let second_part : own_part w (n + 1) both ≡ own_part w (n + 1) other =
       part-second w n one.own other.own (history both.seen) ro
-      ∙ (ap (λ (h : List model.Event). part other.own (n + 1) 0 (moments w h)) h_beside.1 ∙ part-grown w other.own (n + 1) (history other.seen) h_beside.0 s.owns.below) in
+      ∙ (ap (λ (h : List model.Event). part other.own (n + 1) 0 (world_events w h)) h_beside.1 ∙ part-grown w other.own (n + 1) (history other.seen) h_beside.0 s.owns.below) in
       record {
         owns = owns_both w n one.own other.own (history both.seen) ro so;
         each = λ k low high said ahead. dite (dec_le k n)

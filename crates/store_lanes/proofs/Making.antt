@@ -1,4 +1,4 @@
--- What a seat's calls add to its own moments.
+-- What a seat's calls add to its own events.
 use Rattle.std.proofs.Common.{◌≡◌, refl, sym, ap, ◌∙◌, subst, ℕ, zero, suc, ◌+◌, ◌<◌, ◌≤◌, Bool, true, false, not, inl, lt_of_not-le, List, [], ◌∷◌, ◌++◌, length, map, Option, Some, None, append-nil, append_assoc, arith}
 use mathlib.Core.Logic.{dite}
 use native.Mathlib.Decide.{dec_le}
@@ -17,7 +17,7 @@ use Rattle.store_model.specs.Causes.{marks_of}
 use Rattle.store_model.specs.Worlds as model
 use Rattle.store_model.specs.Worlds.{World, OpenedCut}
 use Rattle.store_model.specs.Histories.{after, collection, is_refused}
-use Rattle.store_model.specs.Lanes.{Moment, moments, Wish, one_call, ClosedCut as HasClosed}
+use Rattle.store_model.specs.Lanes.{WorldEvent, world_events, Wish, one_call, ClosedCut as HasClosed}
 use Rattle.cut_builder.specs.CutParts.{ClosedParts, MarkedParts}
 use Rattle.cut_model.specs.Standing.{IsCopying}
 use Rattle.cut_core.specs.Given.{IsCutOf}
@@ -49,19 +49,19 @@ pub known_before : {D : Type 0} (disks : DiskOf D) (first : Seen D) (old new : A
 known_before disks first old new begins known =
     known_first (disks.content first.disk) (history old.seen) (history begins.0) (subst (IsKnown (disks.content first.disk)) (ap history begins.1 ∙ history-append old.seen begins.0) known)
 
--- the moment of an event after some others
-abbrev pub moment_of : World → List Event → Event → Moment
-moment_of w before event = record { world = after w (history before); event = told event }
+-- an event after some others
+abbrev pub world_event_of : World → List Event → Event → WorldEvent
+world_event_of w before event = record { world = after w (history before); event = told event }
 
 module _ {D : Type 0} (w : World) (lane : ℕ) where
   pub added_none : (s : AtDesk D) → Added w lane s s []
   added_none s = record { begins = ([], sym (append-nil s.seen)); owns = λ o. o; parts = λ o. sym (append-nil (own_part w lane s)) }
 
-  pub added_then : (a b c : AtDesk D) (ms ns : List Moment) → Added w lane a b ms → Added w lane b c ns → Added w lane a c (ms ++ ns)
+  pub added_then : (a b c : AtDesk D) (ms ns : List WorldEvent) → Added w lane a b ms → Added w lane b c ns → Added w lane a c (ms ++ ns)
   added_then a b c ms ns x y = record {
     begins = starts_on c.seen b.seen a.seen y.begins x.begins;
     owns = λ o. y.owns (x.owns o);
-    parts = λ o. y.parts (x.owns o) ∙ (ap (λ (l : List Moment). l ++ ns) (x.parts o) ∙ append_assoc (own_part w lane a) ms ns);
+    parts = λ o. y.parts (x.owns o) ∙ (ap (λ (l : List WorldEvent). l ++ ns) (x.parts o) ∙ append_assoc (own_part w lane a) ms ns);
   }
 
 module _ {D : Type 0} (disks : DiskOf D) (w : World) (lane : ℕ) (old new : AtDesk D) where
@@ -70,21 +70,21 @@ module _ {D : Type 0} (disks : DiskOf D) (w : World) (lane : ℕ) (old new : AtD
       let begins = starts_history new.seen old.seen looked.saw.begins in record {
         begins = looked.saw.begins;
         owns = λ o. subst (λ (ps : List ℕ). OwnsLanes w lane lane ps (history new.seen)) (sym looked.own) (owns_grown w lane lane old.own (history old.seen) (history new.seen) o begins);
-        parts = λ o. ((λ i. part (looked.own i) lane 0 (moments w (begins.1 i))) ∙ part-grown w old.own lane (history old.seen) begins.0 o.below) ∙ sym (append-nil (own_part w lane old));
+        parts = λ o. ((λ i. part (looked.own i) lane 0 (world_events w (begins.1 i))) ∙ part-grown w old.own lane (history old.seen) begins.0 o.below) ∙ sym (append-nil (own_part w lane old));
       }
 
-  pub added_entered : (Says : Event → Type 0) (place : ℕ) (e : Entered disks old new Says place) → e.event.entry.lane ≡ lane → Added w lane old new (moment_of w e.before e.event ∷ [])
+  pub added_entered : (Says : Event → Type 0) (place : ℕ) (e : Entered disks old new Says place) → e.event.entry.lane ≡ lane → Added w lane old new (world_event_of w e.before e.event ∷ [])
   added_entered Says place e of =
-      let m : Moment = moment_of w e.before e.event in
+      let m : WorldEvent = world_event_of w e.before e.event in
       let begins = starts_history e.before old.seen e.begins in
       let seen : history new.seen ≡ history e.before ++ told e.event ∷ [] = ap history e.seen ∙ history-append e.before (e.event ∷ []) in
       let own : new.own ≡ old.own ++ length (history e.before) ∷ [] = e.own ∙ ap (λ (p : ℕ). old.own ++ p ∷ []) (e.place_is ∙ sym (length-map e.before told)) in record {
         begins = starts_on new.seen e.before old.seen (e.event ∷ [], e.seen) e.begins;
         owns = λ o. subst (λ (ps : List ℕ). OwnsLanes w lane lane ps (history new.seen)) (sym own) (subst (OwnsLanes w lane lane (old.own ++ length (history e.before) ∷ [])) (sym seen)
             (owns_more w lane lane old.own (history e.before) (told e.event) (owns_grown w lane lane old.own (history old.seen) (history e.before) o begins) (omega (arith, of)) (omega (arith, of))));
-        parts = λ o. (λ i. part (own i) lane 0 (moments w (seen i)))
+        parts = λ o. (λ i. part (own i) lane 0 (world_events w (seen i)))
             ∙ (part-more w old.own lane (history e.before) (told e.event) of
-            ∙ ap (λ (ms : List Moment). ms ++ m ∷ []) (ap (λ (h : List model.Event). part old.own lane 0 (moments w h)) begins.1 ∙ part-grown w old.own lane (history old.seen) begins.0 o.below));
+            ∙ ap (λ (ms : List WorldEvent). ms ++ m ∷ []) (ap (λ (h : List model.Event). part old.own lane 0 (world_events w h)) begins.1 ∙ part-grown w old.own lane (history old.seen) begins.0 o.below));
       }
 
 -- ---- calls of a line
@@ -110,24 +110,24 @@ module _ {D : Type 0} (disks : DiskOf D) (first : Seen D) (lane : ℕ) (old new 
   part_done call reply place b plain e done =
       let calls : e.event.entry.call ≡ call = ap (λ en. en.call) e.says in
       let replies : e.event.entry.reply ≡ reply = ap (λ en. en.reply) e.says in record {
-        made = moment_of first.world e.before e.event ∷ [];
+        made = world_event_of first.world e.before e.event ∷ [];
         added = added_entered disks first.world lane old new (IsOf lane call reply) place e (ap (λ en. en.lane) e.says);
-        outcome = outcome_one call (moment_of first.world e.before e.event) b calls (done ∙ sym (ap (λ x. not (is_refused x)) replies));
+        outcome = outcome_one call (world_event_of first.world e.before e.event) b calls (done ∙ sym (ap (λ x. not (is_refused x)) replies));
         own = λ known. (inl (ap is_plain calls ∙ plain), tt);
       }
 
   -- the closing
   pub closing_refused : (why : Refusal) (place : ℕ) → Entered disks old new (IsClosingOf lane (Err why)) place → PartRan disks first lane (Close ∷ []) old new (Ok false)
   closing_refused why place e = record {
-    made = moment_of first.world e.before e.event ∷ [];
+    made = world_event_of first.world e.before e.event ∷ [];
     added = added_entered disks first.world lane old new (IsClosingOf lane (Err why)) place e (ap (λ en. en.lane) e.says.of);
-    outcome = outcome_one Close (moment_of first.world e.before e.event) false (ap (λ en. en.call) e.says.of) (sym (ap (λ en. not (is_refused en.reply)) e.says.of));
+    outcome = outcome_one Close (world_event_of first.world e.before e.event) false (ap (λ en. en.call) e.says.of) (sym (ap (λ en. not (is_refused en.reply)) e.says.of));
     own = λ known. (inl (ap (λ en. is_plain en.call) e.says.of), tt);
   }
 
   pub closing_out : (cut : ClosedParts) (place : ℕ) → old.start ≡ first ∷ [] → Entered disks old new (IsClosingOf lane (Ok cut)) place → WentOut disks first lane old new cut
   closing_out cut place start e =
-      let m : Moment = moment_of first.world e.before e.event in
+      let m : WorldEvent = world_event_of first.world e.before e.event in
       let calls : e.event.entry.call ≡ Close = ap (λ en. en.call) e.says.of in
       let is_first : e.saw.first ≡ first = same_first e.saw.first first old.start e.saw.start start in
       let told_by : Known disks first new → IsChronicle first.world new.seen = subst (λ (s : Seen D). IsKnown (disks.content s.disk) (history new.seen) → IsChronicle s.world new.seen) is_first e.saw.told in record {
@@ -153,7 +153,7 @@ module _ {D : Type 0} (disks : DiskOf D) (first : Seen D) (lane : ℕ) (old new 
   pub marks_given : (workers number place : ℕ) (marked : Option MarkedParts) (reply : Reply) (b : Bool) → Entered disks old new (IsMarkingOf lane workers marked reply) place → IfSome marked (λ m. m.cut.number ≡ number)
       → b ≡ not (is_refused reply) → MarksRan disks first lane workers number old new (Ok b)
   marks_given workers number place marked reply b e its done =
-      let m : Moment = moment_of first.world e.before e.event in
+      let m : WorldEvent = world_event_of first.world e.before e.event in
       let calls : e.event.entry.call ≡ Mark workers = ap (λ en. en.call) e.says.of in record {
         made = m ∷ [];
         added = added_entered disks first.world lane old new (IsMarkingOf lane workers marked reply) place e (ap (λ en. en.lane) e.says.of);
@@ -161,7 +161,7 @@ module _ {D : Type 0} (disks : DiskOf D) (first : Seen D) (lane : ℕ) (old new 
         own = λ before own closed. own_marks before m workers own calls (subst (λ (n : Note). IfSome (marks_of (note_in n)) (HasClosed before)) (sym e.says.note) (of_marks marked its before closed));
       }
     where
-      of_marks : (marked : Option MarkedParts) → IfSome marked (λ m. m.cut.number ≡ number) → (before : List Moment) → HasClosed before number → IfSome (marks_of (note_in (Marks (marked_number marked)))) (HasClosed before)
+      of_marks : (marked : Option MarkedParts) → IfSome marked (λ m. m.cut.number ≡ number) → (before : List WorldEvent) → HasClosed before number → IfSome (marks_of (note_in (Marks (marked_number marked)))) (HasClosed before)
       of_marks None its before closed = tt
       of_marks (Some m) its before closed = subst (HasClosed before) (sym its) closed
 

@@ -6,24 +6,24 @@ use Rattle.std.specs.Prelude.{slice_get}
 use Rattle.store_model.specs.Worlds.{World, Event}
 use Rattle.store_model.specs.Steps.{next}
 use Rattle.store_model.specs.Histories.{after}
-use Rattle.store_model.specs.Lanes.{Moment, moments, moments_of_lane}
+use Rattle.store_model.specs.Lanes.{WorldEvent, world_events, events_of_lane}
 use Rattle.turn_lock.specs.Lists.{StartsWith, AreOfOne, longer, times, places}
 use Rattle.turn_lock.proofs.Lists.{longer_is}
 use Rattle.store_lanes.specs.Owned.{has, part, OwnsLanes}
 
--- moments
-pub moments-append : (w : World) (xs ys : List Event) → moments w (xs ++ ys) ≡ moments w xs ++ moments (after w xs) ys
-moments-append w [] ys = refl
-moments-append w (e ∷ xs) ys = let m : Moment = record { world = w; event = e } in ap (λ (ms : List Moment). m ∷ ms) (moments-append (next w e) xs ys)
+-- events
+pub world_events-append : (w : World) (xs ys : List Event) → world_events w (xs ++ ys) ≡ world_events w xs ++ world_events (after w xs) ys
+world_events-append w [] ys = refl
+world_events-append w (e ∷ xs) ys = let m : WorldEvent = record { world = w; event = e } in ap (λ (ms : List WorldEvent). m ∷ ms) (world_events-append (next w e) xs ys)
 
-pub length-moments : (w : World) (xs : List Event) → length (moments w xs) ≡ length xs
-length-moments w [] = refl
-length-moments w (e ∷ xs) = let h = length-moments (next w e) xs in omega (arith, h)
+pub length-world_events : (w : World) (xs : List Event) → length (world_events w xs) ≡ length xs
+length-world_events w [] = refl
+length-world_events w (e ∷ xs) = let h = length-world_events (next w e) xs in omega (arith, h)
 
-pub moment_at : (w : World) (xs : List Event) (p : ℕ) (e : Event) → slice_get xs p ≡ Some e → (m : Moment) × (m.event ≡ e) × (slice_get (moments w xs) p ≡ Some m)
-moment_at w [] p e at = absurd cc
-moment_at w (x ∷ xs) zero e at = let m : Moment = record { world = w; event = x } in (m, (let same : x ≡ e = cc in same), refl)
-moment_at w (x ∷ xs) (suc p) e at = moment_at (next w x) xs p e at
+pub world_event_at : (w : World) (xs : List Event) (p : ℕ) (e : Event) → slice_get xs p ≡ Some e → (m : WorldEvent) × (m.event ≡ e) × (slice_get (world_events w xs) p ≡ Some m)
+world_event_at w [] p e at = absurd cc
+world_event_at w (x ∷ xs) zero e at = let m : WorldEvent = record { world = w; event = x } in (m, (let same : x ≡ e = cc in same), refl)
+world_event_at w (x ∷ xs) (suc p) e at = world_event_at (next w x) xs p e at
 
 -- elements of two lists in one
 module _ {A : Type 0} where
@@ -86,33 +86,33 @@ times_places p k (suc n) low high = go (k == p) refl (times_places p (k + 1) n)
         let h = later (omega (arith, other)) (omega arith) in omega (arith, h)
 
 -- parts
-cond_append : (b : Bool) (m : Moment) (xs ys zs : List Moment) → xs ≡ ys ++ zs → cond b (m ∷ xs) xs ≡ cond b (m ∷ ys) ys ++ zs
-cond_append true m xs ys zs e = ap (λ (l : List Moment). m ∷ l) e
+cond_append : (b : Bool) (m : WorldEvent) (xs ys zs : List WorldEvent) → xs ≡ ys ++ zs → cond b (m ∷ xs) xs ≡ cond b (m ∷ ys) ys ++ zs
+cond_append true m xs ys zs e = ap (λ (l : List WorldEvent). m ∷ l) e
 cond_append false m xs ys zs e = e
 
-part-append : (own : List ℕ) (lane at : ℕ) (ms ns : List Moment) → part own lane at (ms ++ ns) ≡ part own lane at ms ++ part own lane (at + length ms) ns
+part-append : (own : List ℕ) (lane at : ℕ) (ms ns : List WorldEvent) → part own lane at (ms ++ ns) ≡ part own lane at ms ++ part own lane (at + length ms) ns
 part-append own lane at [] ns = ap (λ (k : ℕ). part own lane k ns) (sym (add-zero at))
 part-append own lane at (m ∷ ms) ns =
     let e : (at + 1) + length ms ≡ at + length (m ∷ ms) = omega arith in
     cond_append (has at own && (m.event.entry.lane == lane)) m (part own lane (at + 1) (ms ++ ns)) (part own lane (at + 1) ms) (part own lane (at + length (m ∷ ms)) ns)
     (part-append own lane (at + 1) ms ns ∙ ap (λ (k : ℕ). part own lane (at + 1) ms ++ part own lane k ns) e)
 
-cond_none : (b c : Bool) (m : Moment) (xs : List Moment) → (b ≡ true → ⊥) → xs ≡ [] → cond (b && c) (m ∷ xs) xs ≡ []
+cond_none : (b c : Bool) (m : WorldEvent) (xs : List WorldEvent) → (b ≡ true → ⊥) → xs ≡ [] → cond (b && c) (m ∷ xs) xs ≡ []
 cond_none true c m xs never e = absurd (never refl)
 cond_none false c m xs never e = e
 
-pub part-none : (own : List ℕ) (lane at : ℕ) (ms : List Moment) → ((p : ℕ) → at ≤ p → has p own ≡ true → ⊥) → part own lane at ms ≡ []
+pub part-none : (own : List ℕ) (lane at : ℕ) (ms : List WorldEvent) → ((p : ℕ) → at ≤ p → has p own ≡ true → ⊥) → part own lane at ms ≡ []
 part-none own lane at [] none = refl
 part-none own lane at (m ∷ ms) none =
     cond_none (has at own) (m.event.entry.lane == lane) m (part own lane (at + 1) ms) (none at (omega arith)) (part-none own lane (at + 1) ms (λ p le h. none p (omega arith) h))
 
-cond_same : (b c : Bool) (m : Moment) (xs ys : List Moment) → b ≡ c → xs ≡ ys → cond b (m ∷ xs) xs ≡ cond c (m ∷ ys) ys
+cond_same : (b c : Bool) (m : WorldEvent) (xs ys : List WorldEvent) → b ≡ c → xs ≡ ys → cond b (m ∷ xs) xs ≡ cond c (m ∷ ys) ys
 cond_same b c m xs ys e f = λ i. cond (e i) (m ∷ f i) (f i)
 
-abbrev picks : List ℕ → ℕ → ℕ → Moment → Bool
+abbrev picks : List ℕ → ℕ → ℕ → WorldEvent → Bool
 picks own lane at m = has at own && (m.event.entry.lane == lane)
 
-part-same : (own other : List ℕ) (lane at : ℕ) (ms : List Moment) → ((i : ℕ) (m : Moment) → slice_get ms i ≡ Some m → picks own lane (at + i) m ≡ picks other lane (at + i) m)
+part-same : (own other : List ℕ) (lane at : ℕ) (ms : List WorldEvent) → ((i : ℕ) (m : WorldEvent) → slice_get ms i ≡ Some m → picks own lane (at + i) m ≡ picks other lane (at + i) m)
     → part own lane at ms ≡ part other lane at ms
 part-same own other lane at [] same = refl
 part-same own other lane at (m ∷ ms) same =
@@ -120,31 +120,31 @@ part-same own other lane at (m ∷ ms) same =
     (subst (λ (k : ℕ). picks own lane k m ≡ picks other lane k m) (add-zero at) (same 0 m refl))
     (part-same own other lane (at + 1) ms (λ i n g. subst (λ (k : ℕ). picks own lane k n ≡ picks other lane k n) (let e : at + suc i ≡ (at + 1) + i = omega arith in e) (same (suc i) n g)))
 
-pub part-all : (own : List ℕ) (lane at : ℕ) (ms : List Moment) → ((i : ℕ) → i < length ms → has (at + i) own ≡ true) → part own lane at ms ≡ moments_of_lane lane ms
+pub part-all : (own : List ℕ) (lane at : ℕ) (ms : List WorldEvent) → ((i : ℕ) → i < length ms → has (at + i) own ≡ true) → part own lane at ms ≡ events_of_lane lane ms
 part-all own lane at [] all = refl
 part-all own lane at (m ∷ ms) all =
-    cond_same (picks own lane at m) (m.event.entry.lane == lane) m (part own lane (at + 1) ms) (moments_of_lane lane ms)
+    cond_same (picks own lane at m) (m.event.entry.lane == lane) m (part own lane (at + 1) ms) (events_of_lane lane ms)
     (ap (λ (b : Bool). b && (m.event.entry.lane == lane)) (subst (λ (k : ℕ). has k own ≡ true) (add-zero at) (all 0 (omega arith))))
     (part-all own lane (at + 1) ms (λ i lt. subst (λ (k : ℕ). has k own ≡ true) (let e : at + suc i ≡ (at + 1) + i = omega arith in e) (all (suc i) (omega arith))))
 
 pub part-grown : (w : World) (own : List ℕ) (lane : ℕ) (xs more : List Event) → ((p : ℕ) → has p own ≡ true → p < length xs)
-    → part own lane 0 (moments w (xs ++ more)) ≡ part own lane 0 (moments w xs)
+    → part own lane 0 (world_events w (xs ++ more)) ≡ part own lane 0 (world_events w xs)
 part-grown w own lane xs more below =
-    let l = length-moments w xs in
-    ap (part own lane 0) (moments-append w xs more)
-    ∙ (part-append own lane 0 (moments w xs) (moments (after w xs) more)
-    ∙ (ap (λ (ms : List Moment). part own lane 0 (moments w xs) ++ ms)
-    (part-none own lane (0 + length (moments w xs)) (moments (after w xs) more) (λ p le h. let b = below p h in absurd (omega (arith, le, b, l))))
-    ∙ append-nil (part own lane 0 (moments w xs))))
+    let l = length-world_events w xs in
+    ap (part own lane 0) (world_events-append w xs more)
+    ∙ (part-append own lane 0 (world_events w xs) (world_events (after w xs) more)
+    ∙ (ap (λ (ms : List WorldEvent). part own lane 0 (world_events w xs) ++ ms)
+    (part-none own lane (0 + length (world_events w xs)) (world_events (after w xs) more) (λ p le h. let b = below p h in absurd (omega (arith, le, b, l))))
+    ∙ append-nil (part own lane 0 (world_events w xs))))
 
 -- what is owned, over a longer history
 pub owns_grown : (w : World) (first last : ℕ) (own : List ℕ) (xs ys : List Event) → OwnsLanes w first last own xs → StartsWith ys xs → OwnsLanes w first last own ys
 owns_grown w first last own xs ys o begins = record {
   below = λ p h. (let b = o.below p h in let l : length ys ≡ length xs + length begins.0 = ap length begins.1 ∙ length-append xs begins.0 in omega (arith, b, l));
   lanes = λ p m h g.
-      (let b = o.below p h in let l = length-moments w xs in
-      o.lanes p m h (slice_get_front (moments w xs) (moments (after w xs) begins.0) p m (omega (arith, b, l))
-      (subst (λ (ms : List Moment). slice_get ms p ≡ Some m) (ap (moments w) begins.1 ∙ moments-append w xs begins.0) g)));
+      (let b = o.below p h in let l = length-world_events w xs in
+      o.lanes p m h (slice_get_front (world_events w xs) (world_events (after w xs) begins.0) p m (omega (arith, b, l))
+      (subst (λ (ms : List WorldEvent). slice_get ms p ≡ Some m) (ap (world_events w) begins.1 ∙ world_events-append w xs begins.0) g)));
 }
 
 -- one event more, of a lane
@@ -156,11 +156,11 @@ owns_more w first last own xs e o low high =
       below = λ p h. ⊎_elim (λ (t : has p own ≡ true). g.below p t) (λ (t : has p (length xs ∷ []) ≡ true). let q = has_one p (length xs) t in omega (arith, q, longer_by)) (has_either p own (length xs ∷ []) h);
       lanes = λ p m h at. ⊎_elim (λ (t : has p own ≡ true). g.lanes p m t at)
           (λ (t : has p (length xs ∷ []) ≡ true).
-          let q = has_one p (length xs) t in let l = length-moments w xs in
-          let last_one : Moment = record { world = after w xs; event = e } in
-          let is : m ≡ last_one = slice_get_end (moments w xs) last_one m
-          (subst (λ (k : ℕ). slice_get (moments w xs ++ last_one ∷ []) k ≡ Some m) (sym q ∙ sym l) (subst (λ (ms : List Moment). slice_get ms p ≡ Some m) (moments-append w xs (e ∷ [])) at)) in
-          subst (λ (n : Moment). (first ≤ n.event.entry.lane) × (n.event.entry.lane ≤ last)) (sym is) (low, high)) (has_either p own (length xs ∷ []) h);
+          let q = has_one p (length xs) t in let l = length-world_events w xs in
+          let last_one : WorldEvent = record { world = after w xs; event = e } in
+          let is : m ≡ last_one = slice_get_end (world_events w xs) last_one m
+          (subst (λ (k : ℕ). slice_get (world_events w xs ++ last_one ∷ []) k ≡ Some m) (sym q ∙ sym l) (subst (λ (ms : List WorldEvent). slice_get ms p ≡ Some m) (world_events-append w xs (e ∷ [])) at)) in
+          subst (λ (n : WorldEvent). (first ≤ n.event.entry.lane) × (n.event.entry.lane ≤ last)) (sym is) (low, high)) (has_either p own (length xs ∷ []) h);
     }
 
 false_or : (a b : Bool) → (b ≡ true → ⊥) → (a || b) ≡ a
@@ -168,7 +168,7 @@ false_or true b never = refl
 false_or false true never = absurd (never refl)
 false_or false false never = refl
 
-cond_true : (b c : Bool) (m : Moment) → b ≡ true → c ≡ true → cond (b && c) (m ∷ []) [] ≡ m ∷ []
+cond_true : (b c : Bool) (m : WorldEvent) → b ≡ true → c ≡ true → cond (b && c) (m ∷ []) [] ≡ m ∷ []
 cond_true b c m e f = λ i. cond (e i && f i) (m ∷ []) []
 
 true_or : (a b : Bool) → b ≡ true → (a || b) ≡ true
@@ -179,20 +179,20 @@ has_itself : (own : List ℕ) (p : ℕ) → has p (own ++ p ∷ []) ≡ true
 has_itself own p = has-append p own (p ∷ []) ∙ true_or (has p own) (has p (p ∷ [])) (ap (λ (b : Bool). b || false) (eq-eqb p p refl))
 
 pub part-more : (w : World) (own : List ℕ) (lane : ℕ) (xs : List Event) (e : Event) → e.entry.lane ≡ lane
-    → part (own ++ length xs ∷ []) lane 0 (moments w (xs ++ e ∷ [])) ≡ part own lane 0 (moments w xs) ++ record { world = after w xs; event = e } ∷ []
+    → part (own ++ length xs ∷ []) lane 0 (world_events w (xs ++ e ∷ [])) ≡ part own lane 0 (world_events w xs) ++ record { world = after w xs; event = e } ∷ []
 part-more w own lane xs e of =
-    let m : Moment = record { world = after w xs; event = e } in let l = length-moments w xs in
+    let m : WorldEvent = record { world = after w xs; event = e } in let l = length-world_events w xs in
     let own' : List ℕ = own ++ length xs ∷ [] in
-    let front : part own' lane 0 (moments w xs) ≡ part own lane 0 (moments w xs) = part-same own' own lane 0 (moments w xs) (λ i n g.
-    let lt = slice_get_lt (moments w xs) i n g in
+    let front : part own' lane 0 (world_events w xs) ≡ part own lane 0 (world_events w xs) = part-same own' own lane 0 (world_events w xs) (λ i n g.
+    let lt = slice_get_lt (world_events w xs) i n g in
     ap (λ (b : Bool). b && (n.event.entry.lane == lane)) (has-append (0 + i) own (length xs ∷ [])
     ∙ false_or (has (0 + i) own) (has (0 + i) (length xs ∷ [])) (λ h. let q = has_one (0 + i) (length xs) h in absurd (omega (arith, q, lt, l))))) in
-    let place : 0 + length (moments w xs) ≡ length xs = omega (arith, l) in
-    let here : part own' lane (0 + length (moments w xs)) (m ∷ []) ≡ m ∷ [] =
+    let place : 0 + length (world_events w xs) ≡ length xs = omega (arith, l) in
+    let here : part own' lane (0 + length (world_events w xs)) (m ∷ []) ≡ m ∷ [] =
     ap (λ (k : ℕ). part own' lane k (m ∷ [])) place ∙ cond_true (has (length xs) own') (e.entry.lane == lane) m (has_itself own (length xs)) (eq-eqb e.entry.lane lane of) in
-    ap (part own' lane 0) (moments-append w xs (e ∷ [])) ∙ (part-append own' lane 0 (moments w xs) (m ∷ []) ∙ (λ i. front i ++ here i))
+    ap (part own' lane 0) (world_events-append w xs (e ∷ [])) ∙ (part-append own' lane 0 (world_events w xs) (m ∷ []) ∙ (λ i. front i ++ here i))
   where
-    slice_get_lt : (ms : List Moment) (i : ℕ) (n : Moment) → slice_get ms i ≡ Some n → i < length ms
+    slice_get_lt : (ms : List WorldEvent) (i : ℕ) (n : WorldEvent) → slice_get ms i ≡ Some n → i < length ms
     slice_get_lt [] i n g = absurd cc
     slice_get_lt (x ∷ ms) zero n g = omega arith
     slice_get_lt (x ∷ ms) (suc i) n g = let h = slice_get_lt ms i n g in omega (arith, h)
@@ -218,15 +218,15 @@ second_only true false false never = refl
 second_only false b c never = refl
 
 pub part-first : (w : World) (n lane : ℕ) (own other : List ℕ) (xs : List Event) → OwnsLanes w (n + 1) (n + 1) other xs → lane ≤ n
-    → part (own ++ other) lane 0 (moments w xs) ≡ part own lane 0 (moments w xs)
-part-first w n lane own other xs b le = part-same (own ++ other) own lane 0 (moments w xs) (λ i m g.
+    → part (own ++ other) lane 0 (world_events w xs) ≡ part own lane 0 (world_events w xs)
+part-first w n lane own other xs b le = part-same (own ++ other) own lane 0 (world_events w xs) (λ i m g.
     ap (λ (c : Bool). c && (m.event.entry.lane == lane)) (has-append (0 + i) own other)
     ∙ first_only (has (0 + i) own) (has (0 + i) other) (m.event.entry.lane == lane) (λ h t.
-    let k = b.lanes (0 + i) m h (subst (λ (j : ℕ). slice_get (moments w xs) j ≡ Some m) (sym (zero-add i)) g) in let l = k.0 in let q = eqb-true m.event.entry.lane lane t in absurd (omega (arith, l, q, le))))
+    let k = b.lanes (0 + i) m h (subst (λ (j : ℕ). slice_get (world_events w xs) j ≡ Some m) (sym (zero-add i)) g) in let l = k.0 in let q = eqb-true m.event.entry.lane lane t in absurd (omega (arith, l, q, le))))
 
 pub part-second : (w : World) (n : ℕ) (own other : List ℕ) (xs : List Event) → OwnsLanes w 1 n own xs
-    → part (own ++ other) (n + 1) 0 (moments w xs) ≡ part other (n + 1) 0 (moments w xs)
-part-second w n own other xs a = part-same (own ++ other) other (n + 1) 0 (moments w xs) (λ i m g.
+    → part (own ++ other) (n + 1) 0 (world_events w xs) ≡ part other (n + 1) 0 (world_events w xs)
+part-second w n own other xs a = part-same (own ++ other) other (n + 1) 0 (world_events w xs) (λ i m g.
     ap (λ (c : Bool). c && (m.event.entry.lane == n + 1)) (has-append (0 + i) own other)
     ∙ second_only (has (0 + i) own) (has (0 + i) other) (m.event.entry.lane == n + 1) (λ h t.
-    let k = a.lanes (0 + i) m h (subst (λ (j : ℕ). slice_get (moments w xs) j ≡ Some m) (sym (zero-add i)) g) in let l = k.1 in let q = eqb-true m.event.entry.lane (n + 1) t in absurd (omega (arith, l, q))))
+    let k = a.lanes (0 + i) m h (subst (λ (j : ℕ). slice_get (world_events w xs) j ≡ Some m) (sym (zero-add i)) g) in let l = k.1 in let q = eqb-true m.event.entry.lane (n + 1) t in absurd (omega (arith, l, q))))

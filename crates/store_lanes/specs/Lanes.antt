@@ -4,7 +4,7 @@ use Rattle.object_graph.specs.declared.calls.Call.{Call}
 use Rattle.object_graph.specs.declared.calls.Call.TheVariants.{Close, Mark}
 use Rattle.object_graph.specs.declared.memory.Memory.{Memory}
 use Rattle.disk_trait.specs.declared.disk.Disk.{Ghosts as DiskOf}
-use Rattle.store_model.specs.Lanes.{Moment, FollowsLane, IsOwnLine, ClosedCut as HasClosed}
+use Rattle.store_model.specs.Lanes.{WorldEvent, FollowsLane, IsOwnLine, ClosedCut as HasClosed}
 use Rattle.cut_builder.specs.CutParts.{ClosedParts}
 use Rattle.cut_core.specs.Seen.{Seen}
 use Rattle.script_lang.specs.declared.line.Line.{Line}
@@ -35,14 +35,14 @@ module _ {D : Type 0} (disks : DiskOf D) (first : Seen D) where
 
   -- some calls of a line were made
   pub record PartRan (lane : ℕ) (calls : List Call) (old new : AtDesk D) (result : Result Bool Memory) : Type 0 where
-    pub made : List Moment
+    pub made : List WorldEvent
     pub added : Added first.world lane old new made
     pub outcome : Outcome calls made result
     pub own : Known new → IsOwnPart made
 
   -- the cut was closed and went out
   pub record WentOut (lane : ℕ) (old new : AtDesk D) (cut : ClosedParts) : Type 0 where
-    pub made : List Moment
+    pub made : List WorldEvent
     pub added : Added first.world lane old new made
     pub passes : Passes (Close ∷ []) [] made
     pub own : IsOwnPart made
@@ -57,16 +57,16 @@ module _ {D : Type 0} (disks : DiskOf D) (first : Seen D) where
 
   -- marks of this cut were given, or none
   pub record MarksRan (lane workers number : ℕ) (old new : AtDesk D) (result : Result Bool Memory) : Type 0 where
-    pub made : List Moment
+    pub made : List WorldEvent
     pub added : Added first.world lane old new made
     pub outcome : Outcome (Mark workers ∷ []) made result
-    pub own : (before : List Moment) → IsOwnPart before → HasClosed before number → IsOwnPart (before ++ made)
+    pub own : (before : List WorldEvent) → IsOwnPart before → HasClosed before number → IsOwnPart (before ++ made)
 
   -- ---- lines
 
   -- the line was run, or there was no room for one of its calls
   pub record LineServed (lane : ℕ) (line : Line) (old new : AtDesk D) (result : Result (Unit {0}) Memory) : Type 0 where
-    pub made : List Moment
+    pub made : List WorldEvent
     pub added : Added first.world lane old new made
     pub own : Known new → IsOwnLine made
     pub serves : ServesBy (wishes_of first.world.pages line) made result
@@ -102,7 +102,7 @@ module _ {D : Type 0} (disks : DiskOf D) (first : Seen D) where
   LineRan lane bytes old new (Ok false) = LinePassed lane bytes old new
   LineRan lane bytes old new (Err memory) = LineMade lane bytes old new (Err memory)
 
-  -- a lane's own moments follow some of its lines, and all of them where it went to the end
+  -- a lane's own events follow some of its lines, and all of them where it went to the end
   pub record Went (lane : ℕ) (whole : Bool) (seat : AtDesk D) (said : List LaneLine) : Type 0 where
     pub past : List LaneLine
     pub future : List LaneLine

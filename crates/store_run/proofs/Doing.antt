@@ -16,8 +16,8 @@ use Rattle.cut_core.specs.Seen.{Seen}
 use Rattle.store_machine.specs.Acts.{Acts}
 use Rattle.script_lang.specs.Script.{Says}
 use Rattle.store_run.specs.Following.{FollowsLines, FollowsFront}
-use Rattle.store_run.specs.Lines.{CallDone, CallCut, CallRan, CallsDone, CollectionDone, CollectionCut, CollectionRan, LinesDone, LinesCut, LineBad, LineRan, FrontDone, FrontBad, FrontCut, FrontStopped, EndRan}
-use Rattle.store_run.specs.Ran.{CutText, end_status}
+use Rattle.store_run.specs.Lines.{CallDone, CallBegun, CallRan, CallsDone, CollectionDone, CollectionBegun, CollectionRan, LinesDone, LinesBegun, LineBad, LineRan, FrontDone, FrontBad, FrontBegun, FrontStopped, EndRan}
+use Rattle.store_run.specs.Ran.{PartlyWritten, end_status}
 use Rattle.store_run.specs.Writing.{AppendsFront}
 use Rattle.store_run.specs.declared.status.Status.{Status}
 use Rattle.store_run.specs.declared.status.Status.TheVariants.{BadLine, WriteFault}
@@ -47,20 +47,20 @@ module _ {D : Type 0} (disks : DiskOf D) where
   }
 
   -- a front of the text of one more event
-  one_cut : (a b : Option (List ℕ)) (e : Event) → AppendsFront a b (event_text e) → CutText a b (e ∷ [])
-  one_cut a b e h = record { earlier = []; last = e; front = h.front; rest = h.rest; split = refl; text = h.whole; some = h.some; appends = h.appends }
+  one_begun : (a b : Option (List ℕ)) (e : Event) → AppendsFront a b (event_text e) → PartlyWritten a b (e ∷ [])
+  one_begun a b e h = record { earlier = []; last = e; front = h.front; rest = h.rest; split = refl; text = h.whole; some = h.some; appends = h.appends }
 
-  pub call_cut : (old new : Seen D) (line : List ℕ) (call : Call) (a b : Option (List ℕ)) → Says line (One call) → CallCut disks old call new a b → LinesCut disks old (line ∷ []) new a b
-  call_cut old new line call a b says x = record {
+  pub call_begun : (old new : Seen D) (line : List ℕ) (call : Call) (a b : Option (List ℕ)) → Says line (One call) → CallBegun disks old call new a b → LinesBegun disks old (line ∷ []) new a b
+  call_begun old new line call a b says x = record {
     history = x.event ∷ [];
     acts = x.acts;
     follows = call_front old.world.pages line call x.event x.call_is says;
-    written = one_cut a b x.event x.written;
+    written = one_begun a b x.event x.written;
   }
 
   pub one_ran : (old new : Seen D) (line : List ℕ) (call : Call) (a b : Option (List ℕ)) (number : ℕ) (status : Status) → Says line (One call) → CallRan disks old call new a b (Err status)
       → LineRan disks old line new a b number (Err status)
-  one_ran old new line call a b number WriteFault says x = call_cut old new line call a b says x
+  one_ran old new line call a b number WriteFault says x = call_begun old new line call a b says x
   one_ran old new line call a b number _ says x = absurd x
 
   pub collection_ran : (old new : Seen D) (line : List ℕ) (workers : ℕ) (a b : Option (List ℕ)) (number : ℕ) (result : Result (Unit {0}) Status) → Says line (Collect workers)
@@ -99,9 +99,9 @@ module _ {D : Type 0} (disks : DiskOf D) where
     written = text_more h i j x.history y.event x.written y.written;
   }
 
-  calls_cut : (a b c : Seen D) (workers count : ℕ) (call : Call) (h i j : Option (List ℕ)) → CallsDone disks a (collection a.world.pages workers) count b h i
-      → slice_get (collection a.world.pages workers) count ≡ Some call → CallCut disks b call c i j → CollectionCut disks a workers c h j
-  calls_cut a b c workers count call h i j x at y = record {
+  calls_begun : (a b c : Seen D) (workers count : ℕ) (call : Call) (h i j : Option (List ℕ)) → CallsDone disks a (collection a.world.pages workers) count b h i
+      → slice_get (collection a.world.pages workers) count ≡ Some call → CallBegun disks b call c i j → CollectionBegun disks a workers c h j
+  calls_begun a b c workers count call h i j x at y = record {
     history = x.history ++ y.event ∷ [];
     acts = acts_join disks a b c x.history (y.event ∷ []) x.acts y.acts;
     starts = made_begun (collection a.world.pages workers) count x.history call y.event x.made at y.call_is;
@@ -119,7 +119,7 @@ module _ {D : Type 0} (disks : DiskOf D) where
 
   pub calls_stop : (a b c : Seen D) (workers count : ℕ) (call : Call) (h i j : Option (List ℕ)) (status : Status) → CallsDone disks a (collection a.world.pages workers) count b h i
       → slice_get (collection a.world.pages workers) count ≡ Some call → CallRan disks b call c i j (Err status) → CollectionRan disks a workers c h j (Err status)
-  calls_stop a b c workers count call h i j WriteFault x at y = calls_cut a b c workers count call h i j x at y
+  calls_stop a b c workers count call h i j WriteFault x at y = calls_begun a b c workers count call h i j x at y
   calls_stop a b c workers count call h i j _ x at y = absurd y
 
   pub calls_all : (a b : Seen D) (workers count : ℕ) (h i : Option (List ℕ)) → CallsDone disks a (collection a.world.pages workers) count b h i
@@ -146,9 +146,9 @@ module _ {D : Type 0} (disks : DiskOf D) where
     written = subst (λ (t : List ℕ). Appends h j t) (sym (text_join x.history y.history)) (Appends-trans h i j (history_text x.history) (history_text y.history) x.written y.written);
   }
 
-  pub done_then_cut : (a b c : Seen D) (first second : List (List ℕ)) (h i j : Option (List ℕ)) → LinesDone disks a first b h i
-      → LinesCut disks b second c i j → LinesCut disks a (first ++ second) c h j
-  done_then_cut a b c first second h i j x y = record {
+  pub done_then_begun : (a b c : Seen D) (first second : List (List ℕ)) (h i j : Option (List ℕ)) → LinesDone disks a first b h i
+      → LinesBegun disks b second c i j → LinesBegun disks a (first ++ second) c h j
+  done_then_begun a b c first second h i j x y = record {
     history = x.history ++ y.history;
     acts = acts_join disks a b c x.history y.history x.acts y.acts;
     follows = front_join a.world.pages first second x.history y.history x.follows
@@ -219,24 +219,24 @@ module _ {D : Type 0} (disks : DiskOf D) where
         done = done_then_nothing a b c x.lines h i j x.done y.same y.nothing;
       }
 
-  front_cut : (a b c : Seen D) (bytes rest line after : List ℕ) (h i j : Option (List ℕ)) (before number : ℕ)
+  front_begun : (a b c : Seen D) (bytes rest line after : List ℕ) (h i j : Option (List ℕ)) (before number : ℕ)
       → FrontDone disks a bytes b h i before number rest → SplitsAt 10 rest line after
-      → LinesCut disks b (line ∷ []) c i j → FrontCut disks a bytes c h j
-  front_cut a b c bytes rest line after h i j before number x s y = record {
+      → LinesBegun disks b (line ∷ []) c i j → FrontBegun disks a bytes c h j
+  front_begun a b c bytes rest line after h i j before number x s y = record {
     front = x.front ++ (line ++ 10 ∷ []);
     rest = after;
     begun = x.lines ++ line ∷ [];
     whole = whole_more bytes x.front rest line after x.whole s.whole;
     are = whole_join x.front (line ++ 10 ∷ []) x.lines (line ∷ []) x.are (one_whole line s.without);
     some = omega (arith, length-append x.lines (line ∷ []));
-    cut = done_then_cut a b c x.lines (line ∷ []) h i j x.done y;
+    last = done_then_begun a b c x.lines (line ∷ []) h i j x.done y;
   }
 
   pub front_stops : (a b c : Seen D) (bytes rest line after : List ℕ) (h i j : Option (List ℕ)) (before number : ℕ) (status : Status)
       → FrontDone disks a bytes b h i before number rest → SplitsAt 10 rest line after
       → LineRan disks b line c i j (number + 1) (Err status) → FrontStopped disks a bytes c h j before status
   front_stops a b c bytes rest line after h i j before number (BadLine l column) x s y = front_bad a b c bytes rest line after h i j before number l column x s y
-  front_stops a b c bytes rest line after h i j before number WriteFault x s y = front_cut a b c bytes rest line after h i j before number x s y
+  front_stops a b c bytes rest line after h i j before number WriteFault x s y = front_begun a b c bytes rest line after h i j before number x s y
   front_stops a b c bytes rest line after h i j before number _ x s y = absurd y
 
   -- what is left is too long for a line already

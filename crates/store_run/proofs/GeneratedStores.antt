@@ -164,9 +164,9 @@ module _ {D : Type 0} (disks : DiskOf D) where
   rounds_written from count core last new h i line e s a =
       record { last = last; disk_is = e; history = s.history; acts = s.acts; legal = s.legal; follows = s.follows; written = subst (λ (l : List ℕ). Appends h i l) s.line_is a }
 
-  pub rounds_cut : (from count : ℕ) (core last : Seen D) (new : D) (h i : Option (List ℕ)) (line : List ℕ) → new ≡ last.disk → HasGenerated disks core last from count line → AppendsFront h i line
+  pub rounds_begun : (from count : ℕ) (core last : Seen D) (new : D) (h i : Option (List ℕ)) (line : List ℕ) → new ≡ last.disk → HasGenerated disks core last from count line → AppendsFront h i line
       → RoundsMade disks WriteFault from count core new h i
-  rounds_cut from count core last new h i line e s a =
+  rounds_begun from count core last new h i line e s a =
       record { last = last; disk_is = e; history = s.history; acts = s.acts; legal = s.legal; follows = s.follows; written = subst (λ (l : List ℕ). AppendsFront h i l) s.line_is a }
 
   -- the same, of a machine over the core
@@ -180,7 +180,7 @@ module _ {D : Type 0} (disks : DiskOf D) where
   by_writing : (status : Status) (from count : ℕ) (core last : Seen D) (new : D) (h i : Option (List ℕ)) (line : List ℕ) → new ≡ last.disk → HasGenerated disks core last from count line
       → WroteLine status h i line → RoundsMade disks status from count core new h i
   by_writing Done from count core last new h i line d x w = rounds_written from count core last new h i line d x w
-  by_writing WriteFault from count core last new h i line d x w = rounds_cut from count core last new h i line d x w
+  by_writing WriteFault from count core last new h i line d x w = rounds_begun from count core last new h i line d x w
   by_writing _ from count core last new h i line d x w = absurd w
 
   pub ended_whole : (status : Status) (from count : ℕ) (machine core last : Seen D) (new : D) (h i : Option (List ℕ)) (line : List ℕ) → machine ≡ core → new ≡ last.disk

@@ -12,14 +12,14 @@ use Rattle.store_model.specs.Worlds.{Event}
 use Rattle.cut_core.specs.Seen.{Seen}
 use Rattle.store_machine.specs.Acts.{Acts}
 use Rattle.store_run.specs.Following.{FollowsLines}
-use Rattle.store_run.specs.Lines.{AreWholeLines, LinesDone, FrontBad, FrontCut, FrontStopped, PieceDone, EndRan, ScriptRan}
+use Rattle.store_run.specs.Lines.{AreWholeLines, LinesDone, FrontBad, FrontBegun, FrontStopped, PieceDone, EndRan, ScriptRan}
 use Rattle.store_run.specs.Pieces.{PieceRead, Reads, whole_lines}
 use Rattle.store_run.specs.declared.pieces.TheConstants.{SCRIPT_LIMIT, PIECE_LIMIT}
 use Rattle.store_run.specs.Ran.{EndsLine, FollowsWhole}
 use Rattle.store_run.specs.declared.pieces.Unread.{Unread}
 use Rattle.store_run.specs.declared.status.Status.{Status}
 use Rattle.store_run.specs.declared.status.Status.TheVariants.{Done, BadLine, TooLong, ReadFault, WriteFault, DiskFault}
-use Rattle.store_run.proofs.Doing.{nothing_done, done_join, done_then_cut, done_then_nothing}
+use Rattle.store_run.proofs.Doing.{nothing_done, done_join, done_then_begun, done_then_nothing}
 use Rattle.store_run.proofs.WholeLines.{none_whole, whole_join, lines_are, whole_are, little_left}
 
 -- bytes over the limit of a script
@@ -236,15 +236,15 @@ module _ {D : Type 0} (disks : DiskOf D) where
         ends = tt;
       }
 
-  piece_cut : (start core new : Seen D) (a b h i j : Option (List ℕ)) (bytes : List ℕ) (taken number : ℕ) → Fed start core a b h i bytes taken number
-      → FrontCut disks core bytes new i j → ScriptRan disks WriteFault start new a b h j
-  piece_cut start core new a b h i j bytes taken number x p =
-      let cut = done_then_cut disks start core new x.lines p.begun h i j x.done p.cut in
+  piece_begun : (start core new : Seen D) (a b h i j : Option (List ℕ)) (bytes : List ℕ) (taken number : ℕ) → Fed start core a b h i bytes taken number
+      → FrontBegun disks core bytes new i j → ScriptRan disks WriteFault start new a b h j
+  piece_begun start core new a b h i j bytes taken number x p =
+      let done = done_then_begun disks start core new x.lines p.begun h i j x.done p.last in
       let are = whole_join x.read p.front x.lines p.begun x.are p.are in
       record {
         taken = x.read ++ bytes;
-        history = cut.history;
-        acts = cut.acts;
+        history = done.history;
+        acts = done.acts;
         consumed = x.consumed;
         reads = omega (arith, x.len, x.within);
         follows = record {
@@ -255,16 +255,16 @@ module _ {D : Type 0} (disks : DiskOf D) where
           lines = lines_are (x.read ++ p.front) (x.lines ++ p.begun) are;
           soon = soon start core a b h i bytes p.front p.rest taken number x p.whole (λ none. some_not_none p.begun p.some (sym (whole_are p.front p.begun p.are) ∙ none));
           ended = inl (whole_are (x.read ++ p.front) (x.lines ++ p.begun) are ∙ sym (lines_are (x.read ++ p.front) (x.lines ++ p.begun) are));
-          follows = cut.follows;
+          follows = done.follows;
         };
-        written = cut.written;
+        written = done.written;
         ends = tt;
       }
 
   pub piece_stops : (start core new : Seen D) (a b h i j : Option (List ℕ)) (bytes : List ℕ) (taken number : ℕ) (status : Status) → Fed start core a b h i bytes taken number
       → FrontStopped disks core bytes new i j number status → ScriptRan disks status start new a b h j
   piece_stops start core new a b h i j bytes taken number (BadLine line column) x p = piece_bad start core new a b h i j bytes taken number line column x p
-  piece_stops start core new a b h i j bytes taken number WriteFault x p = piece_cut start core new a b h i j bytes taken number x p
+  piece_stops start core new a b h i j bytes taken number WriteFault x p = piece_begun start core new a b h i j bytes taken number x p
   piece_stops start core new a b h i j bytes taken number _ x p = absurd p
 
   -- ---- the end of input
@@ -332,11 +332,11 @@ module _ {D : Type 0} (disks : DiskOf D) where
         ends = p.1;
       }
   end_stops start core new a b h i j ahead number WriteFault x p =
-      let cut = done_then_cut disks start core new x.going.lines (ahead ∷ []) h i j x.going.done p.1 in
+      let done = done_then_begun disks start core new x.going.lines (ahead ∷ []) h i j x.going.done p.1 in
       record {
         taken = x.going.read ++ ahead;
-        history = cut.history;
-        acts = cut.acts;
+        history = done.history;
+        acts = done.acts;
         consumed = x.going.consumed;
         reads = omega (arith, x.going.len, x.going.within);
         follows = record {
@@ -347,9 +347,9 @@ module _ {D : Type 0} (disks : DiskOf D) where
           lines = x.going.are.lines_then ahead ∙ ap (λ l. x.going.lines ++ l) p.0;
           soon = omega arith;
           ended = inr (refl, x.at_end);
-          follows = cut.follows;
+          follows = done.follows;
         };
-        written = cut.written;
+        written = done.written;
         ends = tt;
       }
   end_stops start core new a b h i j ahead number (BadLine line column) x p =

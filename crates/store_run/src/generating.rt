@@ -40,7 +40,7 @@ pub fn generate_store<T: Threads + Sync, D: Disk, K: Sink>(
     ensures calm { result.0 ≡ Status.Done → D.fault_count result.1 ≡ D.fault_count disk }
     ensures calm_none { result.0 ≡ Status.NotAStore → D.fault_count result.1 ≡ D.fault_count disk }
     ensures calm_bad { (at : ℕ) → result.0 ≡ Status.Damaged at → D.fault_count result.1 ≡ D.fault_count disk }
-    ensures cut_calm { result.0 ≡ Status.WriteFault → D.fault_count result.1 ≡ D.fault_count disk }
+    ensures disk_calm { result.0 ≡ Status.WriteFault → D.fault_count result.1 ≡ D.fault_count disk }
     ensures untouched { (len need : ℕ) → result.0 ≡ Status.TooShort len need → result.1 ≡ disk }
     ensures keeps { KeepsDisk ⟦<D as Disk>⟧ disk result.1 }
 {

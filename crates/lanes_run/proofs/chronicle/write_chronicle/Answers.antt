@@ -1,6 +1,6 @@
 use Rattle.std.proofs.Common.{◌∙◌, refl, ap}
 use Rattle.store_model.specs.Texts.{entry_text}
-use Rattle.lanes_run.proofs.Chronicles.{writing_start, writing_more, writing_cut, tail_of}
+use Rattle.lanes_run.proofs.Chronicles.{writing_start, writing_more, writing_begun, tail_of}
 use Rattle.lanes_run.proofs.chronicle.write_chronicle.Goals as goal
 
 pub entries-init : goal.entries-init
@@ -17,6 +17,6 @@ entries-preserved g c = record {
 
 pub returns-in-Err-clause-written : goal.returns-in-Err-clause-written
 returns-in-Err-clause-written g c =
-    writing_cut c.args.chronicle.now c.entries.rest.now _ c.event-item.result (g.K.Sink.held c.args.sink.now) (g.K.Sink.held c.entries.sink) (g.K.Sink.held c.write_all.new.sink) c.deref.result.now
+    writing_begun c.args.chronicle.now c.entries.rest.now _ c.event-item.result (g.K.Sink.held c.args.sink.now) (g.K.Sink.held c.entries.sink) (g.K.Sink.held c.write_all.new.sink) c.deref.result.now
     c.entries.invariant.writing (tail_of c.entries.rest.now c.event-item.result c.in-len1-up.len_at_least c.event-item.is)
     (c.deref.ensures.value ∙ (c.print_line.ensures.text ∙ ap entry_text c.entry.ensures)) c.in-Err.ensures.written

@@ -13,7 +13,7 @@ use Rattle.cut_core.proofs.held.Held.close.Goals as goal
 pub returns-in-Ok-clause-well : goal.returns-in-Ok-clause-well
 returns-in-Ok-clause-well c = λ w h calm.
     closed_holds c.args.self.now c.in-Some.held c.in-Copying.cut w (sym c.take.ensures.value ∙ c.in-Some.is) c.in-Copying.is h calm c.in-Ok.closed (Closed c.of.result) c.in-Ok.ensures.closed refl
-    (ap (λ (x : ClosedParts). let b : CutBeside = record { pages = x.pages; roots = starts_of x } in b) c.of.ensures)
+    (ap (λ (x : ClosedParts). let b : CutBeside = record { pages = x.pages; starts = starts_of x } in b) c.of.ensures)
     (λ n e. ap (λ (x : ClosedParts). x.number) c.of.ensures ∙ e) c.in-Ok.ensures.copied
 
 pub returns-in-Ok-clause-sound : goal.returns-in-Ok-clause-sound

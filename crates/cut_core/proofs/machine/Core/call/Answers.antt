@@ -23,7 +23,7 @@ returns-clause-given g c = λ number pages was.
 
 pub returns-clause-freed : goal.returns-clause-freed
 returns-clause-freed g c = λ page slots is was.
-    subst (λ (s : Seen g.row.D.Denot). AreDoomedOn s.beside.roots s.beside.pages page slots) c.self.view_is (c.answer-reply.ensures.freed page slots is was)
+    subst (λ (s : Seen g.row.D.Denot). AreDoomedOn s.beside.starts s.beside.pages page slots) c.self.view_is (c.answer-reply.ensures.freed page slots is was)
 
 pub returns-clause-copied : goal.returns-clause-copied
 returns-clause-copied g c = λ page is done.

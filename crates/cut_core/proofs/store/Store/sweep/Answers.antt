@@ -40,7 +40,7 @@ returns-then-is_empty-clause-any_moment g c = λ w h holds.
 
 pub returns-clause-freed : goal.returns-clause-freed
 returns-clause-freed g c = λ slots is.
-    subst (AreDoomedOn (beside_of c.args.held.now.cut).roots (beside_of c.args.held.now.cut).pages c.args.page) (sym (c.free.ensures.freed slots is)) c.in-Ok.ensures.exact
+    subst (AreDoomedOn (beside_of c.args.held.now.cut).starts (beside_of c.args.held.now.cut).pages c.args.page) (sym (c.free.ensures.freed slots is)) c.in-Ok.ensures.exact
 
 pub returns-in-Err-clause-any_moment : goal.returns-in-Err-clause-any_moment
 returns-in-Err-clause-any_moment g c = λ w h holds.
