@@ -45,7 +45,12 @@ marks_of marks page = slice_index_or marks page 0
 
 -- a copy of a page as a cut keeps it
 abbrev pub copied_of : PageCopy → CopyParts
-copied_of c = record { current = c.current.slots; before = option_map (λ (p : PageParts). p.slots) c.before; moment = c.moment }
+copied_of c = record {
+  current = c.current.slots;
+  before = option_map
+      (λ (p : PageParts). p.slots) c.before;
+  moment = c.moment;
+}
 
 -- both images of a copy are of its page
 abbrev pub IsOfItsPage : PageCopy → Type 0
@@ -53,7 +58,8 @@ IsOfItsPage c = (c.current.number ≡ c.page) × IfSome c.before (λ p. p.number
 
 -- a place is in use under one name in all images, and place (0, 0) under the root's
 pub record HasOneNameEach (pages : List CutPage) : Type 0 where
-  pub once : (a b : ObjectParts) → In a (cut_graph pages) → In b (cut_graph pages) → a.name.page ≡ b.name.page → a.name.slot ≡ b.name.slot → a.name ≡ b.name
+  pub once : (a b : ObjectParts) → In a (cut_graph pages) → In b (cut_graph pages) → a.name.page ≡ b.name.page
+      → a.name.slot ≡ b.name.slot → a.name ≡ b.name
   pub root : (o : ObjectParts) → In o (cut_graph pages) → o.name.page ≡ 0 → o.name.slot ≡ 0 → o.name ≡ root_name
 
 -- the moment is later than those of the page's copy and after-image

@@ -9,7 +9,12 @@ use Rattle.cut_builder.specs.declared.kept.KeptPage.{KeptPage}
 use Rattle.cut_builder.specs.CutParts.{HasOneNameEach, AreCopied}
 
 abbrev pub copy_of : KeptCopy → CopyParts
-copy_of c = record { current = c.current.slots; before = option_map (λ (p : PageParts). p.slots) c.before; moment = c.moment }
+copy_of c = record {
+  current = c.current.slots;
+  before = option_map
+      (λ (p : PageParts). p.slots) c.before;
+  moment = c.moment;
+}
 
 abbrev pub change_of : KeptChange → AfterImage
 change_of a = record { image = a.image.slots; moment = a.moment }

@@ -8,7 +8,8 @@ use Rattle.cut_model.specs.CutPages.{CutPage, images_of}
 use Rattle.cut_builder.specs.CutParts.{CutParts, page_of, IsOfItsPage, IsLater}
 
 abbrev pub IsYoung : List SlotParts → Type 0
-IsYoung image = (slot : ℕ) → (slice_index_or image slot fresh_slot).in_use ≡ true → (slice_index_or image slot fresh_slot).generation ≡ 1
+IsYoung image = (slot : ℕ) → (slice_index_or image slot fresh_slot).in_use ≡ true
+    → (slice_index_or image slot fresh_slot).generation ≡ 1
 
 pub record AreYoung (pages : List CutPage) : Type 0 where
   pub each : (page : ℕ) (image : List SlotParts) → In image (images_of (page_of pages page)) → IsYoung image

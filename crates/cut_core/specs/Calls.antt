@@ -50,7 +50,11 @@ note_of reply count = nothing
 
 -- a call of the one caller with its reply, and the disk's count of faults as it ended
 abbrev pub event_of : Call → Reply → ℕ → Event
-event_of call reply count = record { entry = record { lane = 1; call = call; reply = reply }; note = note_of reply count }
+event_of call reply count = record {
+  entry =
+      record { lane = 1; call = call; reply = reply };
+  note = note_of reply count;
+}
 
 -- how often a call on the cut reads or frees in a frame at most: a sweep that frees does both
 abbrev pub most_steps : Call → Reply → Option ℕ

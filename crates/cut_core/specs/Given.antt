@@ -29,7 +29,11 @@ closed_note (Err why) = nothing
 
 -- the closing of the one caller, with its answer
 abbrev pub close_event : Result ClosedParts Refusal → Event
-close_event answer = record { entry = record { lane = 1; call = Close; reply = closed_reply answer }; note = closed_note answer }
+close_event answer = record {
+  entry =
+      record { lane = 1; call = Close; reply = closed_reply answer };
+  note = closed_note answer;
+}
 
 abbrev pub marked_reply : Result (Unit {0}) (MarkedParts × Refusal) → Reply
 marked_reply (Ok done) = Done
@@ -37,7 +41,11 @@ marked_reply (Err back) = Refused back.1
 
 -- marks by so many workers, of the cut of this number, or none where marking found no memory
 abbrev pub mark_event : ℕ → Option ℕ → Reply → Event
-mark_event workers number reply = record { entry = record { lane = 1; call = Mark workers; reply = reply }; note = marks number }
+mark_event workers number reply = record {
+  entry =
+      record { lane = 1; call = Mark workers; reply = reply };
+  note = marks number;
+}
 
 -- ---- what was given out
 
@@ -53,7 +61,8 @@ pub record HasGiven (w : World) (b : CutBeside) (number : ℕ) (pages : List Cut
 -- so it is with what is held
 pub record HeldGiven (held : Held) (number : ℕ) (pages : List CutPage) : Type 0 where
   pub before : number ≤ held.last_cut
-  pub same : IfSome held.cut (λ cut. cut.number ≡ number → (is_phase (phase_of cut.stage) phase.Copying ≡ false) × ((beside_stage cut.stage).pages ≡ pages))
+  pub same : IfSome held.cut (λ cut. cut.number ≡ number → (is_phase (phase_of cut.stage) phase.Copying ≡ false)
+      × ((beside_stage cut.stage).pages ≡ pages))
 
 -- what was given out stays so
 abbrev pub KeepsGiven : Held → Held → Type 0

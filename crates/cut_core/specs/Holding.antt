@@ -89,7 +89,8 @@ before_of_frame frame = if frame.dirty then Some frame.before else None
 
 -- why a page isn't copied, where there are so many
 abbrev pub copy_refusal : ℕ → List CutPage → ℕ → Option Refusal
-copy_refusal count pages page = first_met (when (not (nat_lt page count)) NoPage ∷ when (is_some (page_of pages page).copy) (AlreadyCopied page) ∷ [])
+copy_refusal count pages page = first_met (when (not (nat_lt page count)) NoPage
+    ∷ when (is_some (page_of pages page).copy) (AlreadyCopied page) ∷ [])
 
 -- the copy of the page that is its frame as it stands is added to the cut
 abbrev pub AddsFrame : World → ℕ → CutBeside → CutBeside → Type 0
@@ -107,8 +108,11 @@ pub record Copies (s : TransactionsParts) (cut : CutParts) (w : World) : Type 0 
 
 -- the image of a frame was given to a cut, and the slots in which objects were made
 pub record IsImageGiven (frame : Frame) (moment : ℕ) (old new : CutParts) : Type 0 where
-  pub cut : new ≡ built.with_page old frame.current.number (with_commit frame.current.slots moment (page_of new.pages frame.current.number).born (page_of old.pages frame.current.number))
-  pub born : (s : ℕ) → has_slot (page_of new.pages frame.current.number).born s ≡ (has_slot (page_of old.pages frame.current.number).born s || is_made frame s)
+  pub cut : new ≡ built.with_page old frame.current.number
+      (with_commit frame.current.slots moment (page_of new.pages frame.current.number).born
+      (page_of old.pages frame.current.number))
+  pub born : (s : ℕ) → has_slot (page_of new.pages frame.current.number).born s
+      ≡ (has_slot (page_of old.pages frame.current.number).born s || is_made frame s)
 
 -- a page after the commit
 pub record IsPageGiven (w : World) (txn moment page : ℕ) (old new : CutPage) : Type 0 where
@@ -121,4 +125,5 @@ pub record IsGivenUpTo (w : World) (txn moment : ℕ) (done : List ℕ) (old new
   pub start : new.start ≡ old.start
   pub all : length new.pages ≡ length old.pages
   pub others : (page : ℕ) → has_page done page ≡ false → page_of new.pages page ≡ page_of old.pages page
-  pub given : (page : ℕ) → has_page done page ≡ true → IsPageGiven w txn moment page (page_of old.pages page) (page_of new.pages page)
+  pub given : (page : ℕ) → has_page done page ≡ true
+      → IsPageGiven w txn moment page (page_of old.pages page) (page_of new.pages page)

@@ -6,7 +6,12 @@ use Rattle.cut_model.specs.CutPages.{CopyParts}
 
 -- the copy of a page that is its frame: with the committed image beside it where a transaction wrote the page
 abbrev pub copy_of_frame : ℕ → Frame → CopyParts
-copy_of_frame moment frame = record { current = frame.current.slots; before = if frame.dirty then Some frame.before.slots else None; moment = moment }
+copy_of_frame moment frame = record {
+  current = frame.current.slots;
+  before = if frame.dirty
+      then Some frame.before.slots else None;
+  moment = moment;
+}
 
 -- the slot has an object that isn't committed yet
 abbrev pub is_made : Frame → ℕ → Bool

@@ -46,4 +46,5 @@ StepsWell {D} disks old held new e = (w : World) → Stands disks old w → Hold
 -- and a crash at any moment of the call leaves that world or the next
 abbrev pub CrashesWell : {D : Type 0} → DiskOf D → Store D → Held → Store D → Event → Type 0
 CrashesWell {D} disks old held new e =
-    (w : World) → Stands disks old w → Holds held w → IfSome (disks.content old.disk) (λ file. LeavesOnly disks old.disk new.disk (StandsForEither w (next w e)))
+    (w : World) → Stands disks old w → Holds held w
+    → IfSome (disks.content old.disk) (λ file. LeavesOnly disks old.disk new.disk (StandsForEither w (next w e)))

@@ -11,4 +11,5 @@ use Rattle.cut_core.specs.declared.held.HeldCut.{HeldCut}
 abbrev pub sweep_refusal : HeldCut → ℕ → Option Refusal
 sweep_refusal held page =
     first_met (when (not (is_phase (phase_of held.stage) Sweeping)) (WrongPhase (phase_of held.stage))
-    ∷ when (not (nat_lt page (length held.swept.items))) NoPage ∷ when (slice_index_or held.swept.items page false) (AlreadySwept page) ∷ [])
+    ∷ when (not (nat_lt page (length held.swept.items))) NoPage
+    ∷ when (slice_index_or held.swept.items page false) (AlreadySwept page) ∷ [])

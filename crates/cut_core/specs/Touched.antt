@@ -68,4 +68,5 @@ touched_after count ended call reply = []
 
 -- the call, answered so, changed the frames of the pages touched alone
 abbrev pub TouchesWell : TransactionsParts → TransactionsParts → Call → Reply → Type 0
-TouchesWell old new call reply = ChangesFramesOf (touched_after (length old.frames) (pages_ended old.table call) call reply) old.frames new.frames
+TouchesWell old new call reply = ChangesFramesOf
+    (touched_after (length old.frames) (pages_ended old.table call) call reply) old.frames new.frames

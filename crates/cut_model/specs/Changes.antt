@@ -20,7 +20,8 @@ use Rattle.cut_model.specs.Frames.{copy_now}
 abbrev pub IsMade : Transaction → ℕ → ℕ → ℕ → Type 0
 IsMade t page born after = (slot : ℕ) → has_slot after slot ≡ (has_slot born slot || list_any (is_at page slot) t.own)
 
--- a written page of a cut after a commit: it has its after-image, or, where it has no image yet, it may stay without one
+-- a written page of a cut after a commit: it has its after-image, or, where it has no image yet, it may stay without
+-- one
 abbrev pub IsPageAfter : List SlotParts → ℕ → ℕ → CutPage → CutPage → Type 0
 IsPageAfter image moment born p after =
     (after ≡ with_commit image moment born p) ⊎ ((p.copy ≡ None) × (p.after ≡ None) × (after ≡ with_born born p))
@@ -28,16 +29,20 @@ IsPageAfter image moment born p after =
 -- a cut after a commit: the pages that were written, and the others as they were
 pub record IsCutAfter (w : World) (t : Transaction) (pages after : List CutPage) : Type 0 where
   pub all : length after ≡ length pages
-  pub others : (page : ℕ) → has_page t.pages_written page ≡ false → slice_index_or after page bare_page ≡ slice_index_or pages page bare_page
+  pub others : (page : ℕ) → has_page t.pages_written page ≡ false
+      → slice_index_or after page bare_page ≡ slice_index_or pages page bare_page
   pub made : ℕ → ℕ
-  pub is_made : (page : ℕ) → has_page t.pages_written page ≡ true → IsMade t page (slice_index_or pages page bare_page).born (made page)
+  pub is_made : (page : ℕ) → has_page t.pages_written page ≡ true
+      → IsMade t page (slice_index_or pages page bare_page).born (made page)
   pub written : (page : ℕ) → page < length pages → has_page t.pages_written page ≡ true
-      → IsPageAfter (shown_in w (view w t) page) (w.commits + 1) (made page) (slice_index_or pages page bare_page) (slice_index_or after page bare_page)
+      → IsPageAfter (shown_in w (view w t) page) (w.commits + 1) (made page) (slice_index_or pages page bare_page)
+      (slice_index_or after page bare_page)
 
 -- each page that a commit wrote has an after-image
 abbrev pub GivesImagesBy : World → Call → List CutPage → Type 0
 GivesImagesBy w (Commit t) after =
-    (page : ℕ) → page < length after → has_page (transaction w t).pages_written page ≡ true → IsTrue (is_some (slice_index_or after page bare_page).after)
+    (page : ℕ) → page < length after → has_page (transaction w t).pages_written page ≡ true
+    → IsTrue (is_some (slice_index_or after page bare_page).after)
 GivesImagesBy w _ after = Unit {0}
 
 abbrev pub GivesImages : World → Call → Reply → List CutPage → Type 0
@@ -46,13 +51,15 @@ GivesImages w call reply after = GivesImagesBy w call after
 
 -- a copy of a page is added
 abbrev pub Adds : ℕ → CopyParts → List CutPage → List CutPage → Type 0
-Adds page c pages after = (page < length pages) × (after ≡ slice_set pages page (with_copy c (slice_index_or pages page bare_page)))
+Adds page c pages after = (page < length pages)
+    × (after ≡ slice_set pages page (with_copy c (slice_index_or pages page bare_page)))
 
 -- what a call that is answered does
 abbrev pub ChangesBy : World → Opening → Call → List CutPage → List CutPage → Type 0
 ChangesBy w opening (Commit t) pages after = IsCutAfter w (transaction w t) pages after
 ChangesBy w opening (Copy page) pages after = Adds page (copy_now w page) pages after
-ChangesBy w opening (HandIn page number seen) pages after = (c : CopyParts) × IsFitCopy (state_of w) opening page (slice_index_or pages page bare_page) c × Adds page c pages after
+ChangesBy w opening (HandIn page number seen) pages after = (c : CopyParts)
+    × IsFitCopy (state_of w) opening page (slice_index_or pages page bare_page) c × Adds page c pages after
 ChangesBy w opening _ pages after = after ≡ pages
 
 abbrev pub Changes : World → Opening → Call → Reply → List CutPage → List CutPage → Type 0

@@ -20,7 +20,8 @@ IsCopyOf number page (Copy p) = p ≡ page
 IsCopyOf number page (HandIn p n seen) = (p ≡ page) × (n ≡ number)
 IsCopyOf number page _ = ⊥
 
--- a copy of each page, then the closing, then the marks of this cut, then a sweep of each page; other calls between them
+-- a copy of each page, then the closing, then the marks of this cut, then a sweep of each page; other calls between
+-- them
 pub record RunsThrough (number pages : ℕ) (events : List Event) : Type 0 where
   pub copies : List Event
   pub closing : Event

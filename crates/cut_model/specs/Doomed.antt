@@ -32,19 +32,24 @@ pub record IsSafeToFree (w : World) (opening : Opening) (name : NameParts) : Typ
   pub out : IsOutOfReach w name
 
 -- on the pages that aren't swept each doomed name is safe to free, and what was lost and isn't freed is doomed there
-pub record KeepsDoomed (w : World) (opening : Opening) (from : List NameParts) (pages : List CutPage) (swept : List ℕ) : Type 0 where
-  pub safe : (name : NameParts) → IsDoomed from pages name → has_page swept name.page ≡ false → IsSafeToFree w opening name
-  pub lost : (name : NameParts) → IsLost opening name → IsTrue (not (is_freed w name)) → (has_page swept name.page ≡ false) × IsDoomed from pages name
+pub record KeepsDoomed (w : World) (opening : Opening) (from : List NameParts) (pages : List CutPage)
+    (swept : List ℕ) : Type 0 where
+  pub safe : (name : NameParts) → IsDoomed from pages name → has_page swept name.page ≡ false
+      → IsSafeToFree w opening name
+  pub lost : (name : NameParts) → IsLost opening name → IsTrue (not (is_freed w name))
+      → (has_page swept name.page ≡ false) × IsDoomed from pages name
 
 -- the doomed slots of a page
 abbrev pub AreDoomedOn : List NameParts → List CutPage → ℕ → ℕ → Type 0
 AreDoomedOn from pages page slots =
-    (slot : ℕ) → IsTrue (has_slot slots slot) ↔ ((name : NameParts) × IsDoomed from pages name × (name.page ≡ page) × (name.slot ≡ slot))
+    (slot : ℕ) → IsTrue (has_slot slots slot) ↔ ((name : NameParts) × IsDoomed from pages name × (name.page ≡ page)
+    × (name.slot ≡ slot))
 
 -- the marks by their places: a slot is marked where a marked name stands in it
 abbrev pub AreMarks : List NameParts → List CutPage → (ℕ → ℕ) → Type 0
 AreMarks from pages marks =
-    (page slot : ℕ) → IsTrue (has_slot (marks page) slot) ↔ ((name : NameParts) × IsMarked from pages name × (name.page ≡ page) × (name.slot ≡ slot))
+    (page slot : ℕ) → IsTrue (has_slot (marks page) slot) ↔ ((name : NameParts) × IsMarked from pages name
+    × (name.page ≡ page) × (name.slot ≡ slot))
 
 -- a slot in use in an image
 abbrev pub is_used : List SlotParts → ℕ → Bool

@@ -31,7 +31,8 @@ abbrev pub without_before : CopyParts → CopyParts
 without_before c = record c { before = None }
 
 abbrev pub lossy_cut : List CutPage
-lossy_cut = with_copy (without_before (copy_now (dirty_at 7) 0)) bare_page ∷ with_copy (copy_now (dirty_at 9) 1) bare_page ∷ []
+lossy_cut = with_copy (without_before (copy_now (dirty_at 7) 0)) bare_page
+    ∷ with_copy (copy_now (dirty_at 9) 1) bare_page ∷ []
 
 -- ---- a moved pointer
 
@@ -45,12 +46,15 @@ moved_opening = opening_of (moved_at 6)
 abbrev pub target : NameParts
 target = name_of 2 0 1
 
--- page 0 is copied before the commit that moves the pointer, and has that commit's after-image; the others are copied after it
+-- page 0 is copied before the commit that moves the pointer, and has that commit's after-image; the others are copied
+-- after it
 abbrev pub moved_cut : List CutPage
 moved_cut =
-    with_commit (shown_in (moved_at 13) (view (moved_at 13) (transaction (moved_at 13) 2)) 0) 2 0 (with_copy (copy_now (moved_at 7) 0) bare_page)
+    with_commit (shown_in (moved_at 13) (view (moved_at 13) (transaction (moved_at 13) 2)) 0) 2 0
+    (with_copy (copy_now (moved_at 7) 0) bare_page)
     ∷ with_copy (copy_now (moved_at 14) 1) bare_page ∷ with_copy (copy_now (moved_at 15) 2) bare_page ∷ []
 
 -- the same without the after-image
 abbrev pub stale_cut : List CutPage
-stale_cut = with_copy (copy_now (moved_at 7) 0) bare_page ∷ with_copy (copy_now (moved_at 14) 1) bare_page ∷ with_copy (copy_now (moved_at 15) 2) bare_page ∷ []
+stale_cut = with_copy (copy_now (moved_at 7) 0) bare_page ∷ with_copy (copy_now (moved_at 14) 1) bare_page
+    ∷ with_copy (copy_now (moved_at 15) 2) bare_page ∷ []

@@ -14,7 +14,12 @@ writer_of ts page = find (λ t. has_page t.pages_written page) ts
 -- the page's frame: a clean one, and one with the writes of a transaction
 abbrev pub copy_with : World → ℕ → Option Transaction → CopyParts
 copy_with w page None = record { current = shown w page; before = None; moment = w.commits }
-copy_with w page (Some t) = record { current = shown_in w (view w t) page; before = Some (shown w page); moment = w.commits }
+copy_with w page (Some t) = record {
+  current = shown_in w (view w t) page;
+  before = Some
+      (shown w page);
+  moment = w.commits;
+}
 
 abbrev pub copy_now : World → ℕ → CopyParts
 copy_now w page = copy_with w page (writer_of w.transactions page)

@@ -18,7 +18,8 @@ use Rattle.cut_model.specs.CutPages.{CopyParts, CutPage, bare_page, committed_im
 -- an object in an image has the name of its place, and doesn't refer to what was lost, unless it was lost itself
 pub record IsSafeObject (opening : Opening) (o : ObjectParts) : Type 0 where
   pub name : o.name.generation ≡ generation_at opening.graph opening.freed o.name.page o.name.slot
-  pub kept : ¬ IsLost opening o.name → (target : NameParts) → IsLost opening target → ¬ IsTrue (list_any (is_to target) o.refs)
+  pub kept : ¬ IsLost opening o.name → (target : NameParts) → IsLost opening target
+      → ¬ IsTrue (list_any (is_to target) o.refs)
 
 abbrev pub IsSafeImage : Opening → ℕ → List SlotParts → Type 0
 IsSafeImage opening page image = AllByRecursion (IsSafeObject opening) (objects_of page image)
@@ -37,7 +38,8 @@ pub record IsSoundPage (s : State) (opening : Opening) (page : ℕ) (p : CutPage
 
 -- each page is
 abbrev pub IsSound : State → Opening → List CutPage → Type 0
-IsSound s opening pages = (page : ℕ) → page < length pages → IsSoundPage s opening page (slice_index_or pages page bare_page)
+IsSound s opening pages = (page : ℕ) → page < length pages
+    → IsSoundPage s opening page (slice_index_or pages page bare_page)
 
 -- a copy of a page that has none yet is fit
 pub record IsFitCopy (s : State) (opening : Opening) (page : ℕ) (p : CutPage) (c : CopyParts) : Type 0 where

@@ -25,7 +25,8 @@ pub record IsCopying (w : World) (cut : OpenedCut) (pages : List CutPage) : Type
   pub keeps : KeepsOpening w cut.opening
   pub all : length pages ≡ w.pages
   pub sound : IsSound (state_of w) cut.opening pages
-  pub copied : (page : ℕ) → page < w.pages → is_some (slice_index_or pages page bare_page).copy ≡ has_page cut.copied page
+  pub copied : (page : ℕ) → page < w.pages
+      → is_some (slice_index_or pages page bare_page).copy ≡ has_page cut.copied page
   pub unswept : cut.swept ≡ []
 
 -- what is kept beside a world: what its cut has of each page and, from the closing on, where the marks start
@@ -64,7 +65,8 @@ starts_after w _ from = from
 
 -- what an event does to the cut
 abbrev pub TurnsIn : World → OpenedCut → Phase → Call → CutBeside → CutBeside → Type 0
-TurnsIn w cut Copying call b after = ChangesBy w cut.opening call b.pages after.pages × (after.starts ≡ starts_after w call b.starts)
+TurnsIn w cut Copying call b after = ChangesBy w cut.opening call b.pages after.pages
+    × (after.starts ≡ starts_after w call b.starts)
 TurnsIn w cut Closed call b after = after ≡ b
 TurnsIn w cut Sweeping call b after = after ≡ b
 
@@ -82,4 +84,5 @@ Turns w call reply b after = TurnsOf w call b after
 -- from event to event
 abbrev pub TurnsThrough : World → CutBeside → List Event → CutBeside → Type 0
 TurnsThrough w b [] last = last ≡ b
-TurnsThrough w b (e ∷ events) last = (after : CutBeside) × Turns w e.entry.call e.entry.reply b after × TurnsThrough (next w e) after events last
+TurnsThrough w b (e ∷ events) last = (after : CutBeside) × Turns w e.entry.call e.entry.reply b after
+    × TurnsThrough (next w e) after events last

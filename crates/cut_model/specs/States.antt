@@ -13,10 +13,12 @@ generation_with [] names = 1 + names
 generation_with (o ∷ os) names = o.name.generation
 
 abbrev pub generation_at : List ObjectParts → List NameParts → ℕ → ℕ → ℕ
-generation_at graph freed page slot = generation_with (unfreed_at graph freed page slot) (length (objects_at graph page slot))
+generation_at graph freed page slot = generation_with (unfreed_at graph freed page slot)
+    (length (objects_at graph page slot))
 
 -- until the first sweep each place also has the name that it had as the cut opened
 pub record KeepsOpening (w : World) (opening : Opening) : Type 0 where
   pub lost : KeepsLost w opening
   pub commits : opening.commits ≤ w.commits
-  pub names : (page slot : ℕ) → generation_at w.graph w.freed page slot ≡ generation_at opening.graph opening.freed page slot
+  pub names : (page slot : ℕ)
+      → generation_at w.graph w.freed page slot ≡ generation_at opening.graph opening.freed page slot

@@ -22,34 +22,41 @@ pub fn a_cut_opens_sound()
 
 /// A page's frame as it stands is a fit copy.
 pub fn a_frame_is_a_fit_copy()
-    ensures { (w : World) (opening : Opening) (page : ℕ) (p : CutPage) → IsOrderly w → KeepsOpening w opening → IsFitCopy (state_of w) opening page p (copy_now w page) }
+    ensures { (w : World) (opening : Opening) (page : ℕ) (p : CutPage) → IsOrderly w → KeepsOpening w opening
+        → IsFitCopy (state_of w) opening page p (copy_now w page) }
 {}
 
 /// A fit copy stays fit while the cut is copied, where each commit gives an after-image of each page
 /// that it wrote.
 pub fn a_fit_copy_stays_fit()
-    ensures { (w : World) (opening : Opening) (call : AnyCall) (note : Note) (reply : AnyReply) (pages after : List CutPage) (page : ℕ) (c : CopyParts) → IsOrderly w
-        → page < length pages → AllowsReply w call note reply → ends_copying call ≡ false → Changes w opening call reply pages after → GivesImages w call reply after
+    ensures { (w : World) (opening : Opening) (call : AnyCall) (note : Note) (reply : AnyReply)
+        (pages after : List CutPage) (page : ℕ) (c : CopyParts) → IsOrderly w
+        → page < length pages → AllowsReply w call note reply → ends_copying call ≡ false
+        → Changes w opening call reply pages after → GivesImages w call reply after
         → IsFit (state_of w) opening page (slice_index_or pages page bare_page) c
         → IsFit (state_of (after_reply w call note reply)) opening page (slice_index_or after page bare_page) c }
 {}
 
 /// A fit copy of a page keeps the cut sound.
 pub fn a_fit_copy_keeps_the_cut_sound()
-    ensures { (s : State) (opening : Opening) (pages : List CutPage) (page : ℕ) (c : CopyParts) → IsSound s opening pages → page < length pages
-        → IsFitCopy s opening page (slice_index_or pages page bare_page) c → IsSound s opening (slice_set pages page (with_copy c (slice_index_or pages page bare_page))) }
+    ensures { (s : State) (opening : Opening) (pages : List CutPage) (page : ℕ) (c : CopyParts)
+        → IsSound s opening pages → page < length pages
+        → IsFitCopy s opening page (slice_index_or pages page bare_page) c
+        → IsSound s opening (slice_set pages page (with_copy c (slice_index_or pages page bare_page))) }
 {}
 
 /// A commit keeps the cut sound that gives an after-image of each page that it wrote, or of each that
 /// had an image already.
 pub fn a_commit_keeps_the_cut_sound()
-    ensures { (w : World) (t : Transaction) (opening : Opening) (pages after : List CutPage) → IsOrderly w → In t w.transactions → KeepsOpening w opening
+    ensures { (w : World) (t : Transaction) (opening : Opening) (pages after : List CutPage) → IsOrderly w
+        → In t w.transactions → KeepsOpening w opening
         → IsCutAfter w t pages after → IsSound (state_of w) opening pages → IsSound (state_after w t) opening after }
 {}
 
 /// Each allowed event keeps a cut sound while it is copied.
 pub fn each_event_keeps_the_cut_sound()
-    ensures { (w : World) (opening : Opening) (call : AnyCall) (note : Note) (reply : AnyReply) (pages after : List CutPage) → IsOrderly w → KeepsOpening w opening
+    ensures { (w : World) (opening : Opening) (call : AnyCall) (note : Note) (reply : AnyReply)
+        (pages after : List CutPage) → IsOrderly w → KeepsOpening w opening
         → AllowsReply w call note reply → ends_copying call ≡ false → Changes w opening call reply pages after
         → IsSound (state_of w) opening pages → IsSound (state_of (after_reply w call note reply)) opening after }
 {}
@@ -57,6 +64,7 @@ pub fn each_event_keeps_the_cut_sound()
 /// It also keeps what the world keeps of the opening: what was lost stays out of reach, and each place
 /// keeps its name.
 pub fn each_event_keeps_the_opening()
-    ensures { (w : World) (opening : Opening) (call : AnyCall) (note : Note) (reply : AnyReply) → IsOrderly w → AllowsReply w call note reply → ends_copying call ≡ false
+    ensures { (w : World) (opening : Opening) (call : AnyCall) (note : Note) (reply : AnyReply) → IsOrderly w
+        → AllowsReply w call note reply → ends_copying call ≡ false
         → KeepsOpening w opening → KeepsOpening (after_reply w call note reply) opening }
 {}

@@ -18,12 +18,14 @@ pub fn a_fresh_store_stands()
 
 /// Each allowed event leaves what stands, with what the call does to the cut.
 pub fn each_event_leaves_what_stands()
-    ensures { (w : World) (e : Event) (b after : CutBeside) → IsStanding w b → Allows w e → Turns w e.entry.call e.entry.reply b after → IsStanding (next w e) after }
+    ensures { (w : World) (e : Event) (b after : CutBeside) → IsStanding w b → Allows w e
+        → Turns w e.entry.call e.entry.reply b after → IsStanding (next w e) after }
 {}
 
 /// So does each legal history.
 pub fn histories_leave_what_stands()
-    ensures { (w : World) (b : CutBeside) (events : List Event) (last : CutBeside) → IsStanding w b → IsLegal w events → TurnsThrough w b events last
+    ensures { (w : World) (b : CutBeside) (events : List Event) (last : CutBeside) → IsStanding w b → IsLegal w events
+        → TurnsThrough w b events last
         → IsStanding (after w events) last }
 {}
 
@@ -31,8 +33,12 @@ pub fn histories_leave_what_stands()
 /// each page, then the closing, then the marks of this cut, and then a sweep of each page the end is
 /// answered as done, and otherwise by no reply.
 pub fn a_cut_that_runs_through_ends()
-    ensures may { (w : World) (note : Note) (number : ℕ) (events : List Event) → AllowsReply w OpenCut note (Cut number) → IsLegal (after_reply w OpenCut note (Cut number)) events
-        → AllByRecursion IsUndisturbing events → RunsThrough number w.pages events → AllowsReply (after (after_reply w OpenCut note (Cut number)) events) EndCut nothing Done }
-    ensures only { (w : World) (note : Note) (number : ℕ) (events : List Event) (reply : AnyReply) → AllowsReply w OpenCut note (Cut number) → IsLegal (after_reply w OpenCut note (Cut number)) events
-        → AllByRecursion IsUndisturbing events → RunsThrough number w.pages events → AllowsReply (after (after_reply w OpenCut note (Cut number)) events) EndCut nothing reply → reply ≡ Done }
+    ensures may { (w : World) (note : Note) (number : ℕ) (events : List Event) → AllowsReply w OpenCut note (Cut number)
+        → IsLegal (after_reply w OpenCut note (Cut number)) events
+        → AllByRecursion IsUndisturbing events → RunsThrough number w.pages events
+        → AllowsReply (after (after_reply w OpenCut note (Cut number)) events) EndCut nothing Done }
+    ensures only { (w : World) (note : Note) (number : ℕ) (events : List Event) (reply : AnyReply)
+        → AllowsReply w OpenCut note (Cut number) → IsLegal (after_reply w OpenCut note (Cut number)) events
+        → AllByRecursion IsUndisturbing events → RunsThrough number w.pages events
+        → AllowsReply (after (after_reply w OpenCut note (Cut number)) events) EndCut nothing reply → reply ≡ Done }
 {}

@@ -16,7 +16,8 @@ use Rattle.generator.specs.Rounds.{store_pages, most_rounds}
 
 -- no refusal of the call is allowed but want of memory and a fault of the disk
 abbrev pub IsOnlyStopped : World → Call → Type 0
-IsOnlyStopped w call = (note : Note) (why : Refusal) → HasPresentMarks w call note → AllowsReply w call note (Refused why) → (why ≡ Memory) ⊎ (why ≡ DiskFault)
+IsOnlyStopped w call = (note : Note) (why : Refusal) → HasPresentMarks w call note
+    → AllowsReply w call note (Refused why) → (why ≡ Memory) ⊎ (why ≡ DiskFault)
 
 -- no refusal of the call is allowed at all
 abbrev pub IsNeverRefused : World → Call → Type 0

@@ -112,7 +112,8 @@ module _ {D : Type 0} (disks : DiskOf D) where
   pub record Fills (old new : Seen D) (x i : ℕ) (before : Option NameParts) (full : Bool) : Type 0 where
     pub object : Option NameParts
     pub is_full : full ≡ is_full_for object
-    pub goes : GoesOn old new (entry (New 1 (page_drawn x)) (made_on (page_drawn x) object) ∷ writes_of x i before object) [] 10
+    pub goes : GoesOn old new (entry (New 1 (page_drawn x)) (made_on (page_drawn x) object)
+        ∷ writes_of x i before object) [] 10
 
   -- the transaction of a round was committed
   pub record HasTransacted (old new : Seen D) (x i : ℕ) (full : Bool) (number : ℕ) : Type 0 where
@@ -217,7 +218,8 @@ module _ {D : Type 0} (disks : DiskOf D) where
     pub acts : Acts disks old new history
     pub legal : IsLegalRun old.world history new.world
     pub follows : FollowsGenerator from count history
-    pub line : summary_text tally.rounds tally.commits tally.full tally.freed tally.ended ≡ summary count old.world history
+    pub line : summary_text tally.rounds tally.commits tally.full tally.freed tally.ended
+        ≡ summary count old.world history
 
   -- such a run stopped
   pub record HasStopped (old new : Seen D) (from count : ℕ) (stop : Stop) : Type 0 where

@@ -52,7 +52,8 @@ writes_of x i old (Some name) =
 -- the transaction of round i, for which x was drawn, where `old` stood in the root's field and `made` was made
 abbrev pub transaction_of : ℕ → ℕ → Option NameParts → Option NameParts → List Entry
 transaction_of x i old made =
-    (entry (Begin 1) Done ∷ entry (Get 1 root_name (field_drawn x)) (Ref old) ∷ entry (New 1 (page_drawn x)) (made_on (page_drawn x) made) ∷ [])
+    (entry (Begin 1) Done ∷ entry (Get 1 root_name (field_drawn x)) (Ref old)
+    ∷ entry (New 1 (page_drawn x)) (made_on (page_drawn x) made) ∷ [])
     ++ (writes_of x i old made ++ entry (Commit 1) (Committed (i + 1)) ∷ [])
 
 -- every 32nd round collects, by four markers

@@ -50,4 +50,5 @@ summary_text rounds commits full freed ended =
 -- the line of a run of so many rounds, from a world on
 abbrev pub summary : ℕ → World → List Event → List ℕ
 summary rounds w history =
-    summary_text rounds (after w history).commits (full_in (entries_of history)) (freed_in (entries_of history)) (ended_in (entries_of history))
+    summary_text rounds (after w history).commits (full_in (entries_of history)) (freed_in (entries_of history))
+    (ended_in (entries_of history))

@@ -15,11 +15,13 @@ use Rattle.image_model.specs.Opening.{final_at, counted_of, home_at}
 
 -- ---- on the way
 
--- the other area is empty and has this base, and each home has the final image of its page: either area may be the active one
+-- the other area is empty and has this base, and each home has the final image of its page: either area may be the
+-- active one
 pub record IsReadyToSwitch (super : SuperParts) (commits : ℕ) (file : List ℕ) : Type 0 where
   pub head : super_of file ≡ Some super
   pub other : Holds (grammar super.pages) (1 - super.area) commits [] file
-  pub homes : (page : ℕ) (p : PageParts) → page < super.pages → final_at (counted_of file) file page ≡ Ok p → home_at page (home_of page file) ≡ Ok p
+  pub homes : (page : ℕ) (p : PageParts) → page < super.pages → final_at (counted_of file) file page ≡ Ok p
+      → home_at page (home_of page file) ≡ Ok p
 
 -- ---- laid
 
@@ -29,7 +31,8 @@ area_bytes commits = empty_area commits ++ replicate (AREA_SIZE - 9) 0
 
 -- the bytes of a store with these pages and so many commits, whose areas are empty
 unfoldable pub store_bytes : ℕ → List PageParts → List ℕ
-store_bytes commits pages = super_bytes (length pages) ++ (area_bytes commits ++ (area_bytes commits ++ flat_map page_bytes pages))
+store_bytes commits pages = super_bytes (length pages) ++
+    (area_bytes commits ++ (area_bytes commits ++ flat_map page_bytes pages))
 
 -- the file begins with them
 abbrev pub IsLaid : ℕ → List PageParts → List ℕ → Type 0

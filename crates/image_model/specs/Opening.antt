@@ -77,7 +77,8 @@ as_damage (Err at) = Err (damaged at)
 abbrev pub open_with : Option SuperParts → List ℕ → Result StoreParts Fault
 open_with None file = Err not_a_store
 open_with (Some s) file =
-    if nat_le (store_size s.pages) (length file) then as_damage (active_of s file >>= with_homes s file) else Err (damaged (length file))
+    if nat_le (store_size s.pages) (length file) then as_damage (active_of s file >>= with_homes s file)
+    else Err (damaged (length file))
 
 -- what the file holds, or the first thing that is wrong with it; the root and the references are judged above
 unfoldable pub open_of : List ℕ → Result StoreParts Fault

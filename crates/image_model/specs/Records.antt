@@ -20,7 +20,8 @@ slots_or old (Some p) = p.slots
 
 -- each page named takes its last image, and the others stay
 abbrev pub TakesImages : ℕ → List PageParts → State → State → Type 0
-TakesImages pages images s t = (page : ℕ) → page < pages → shown_by t page ≡ slots_or (shown_by s page) (last_image images page)
+TakesImages pages images s t = (page : ℕ) → page < pages
+    → shown_by t page ≡ slots_or (shown_by s page) (last_image images page)
 
 -- the state after a record: one that a store may have, with the record's images, and counted where it is a commit
 pub record IsAfterRecord (pages : ℕ) (new : RecordParts) (s t : State) : Type 0 where

@@ -12,11 +12,13 @@ use object_graph::MOST_COUNTED;
 
 /// It opens to the pages and the commits that were laid.
 pub fn a_laid_file_opens_to_what_was_laid()
-    ensures { (file : List ℕ) (store : StoreParts) → ArePages store.pages → AllByRecursion ReadsBack store.pages → store.commits ≤ MOST_COUNTED
+    ensures { (file : List ℕ) (store : StoreParts) → ArePages store.pages → AllByRecursion ReadsBack store.pages
+        → store.commits ≤ MOST_COUNTED
         → IsLaid store.commits store.pages file → open_of file ≡ Ok store }
 {}
 
 /// The pages of a fresh store, without a commit, open to the fresh world.
 pub fn a_fresh_store_opens_to_the_fresh_world()
-    ensures { (file : List ℕ) (pages : ℕ) → 0 < pages → IsStore file (record { commits = 0; pages = fresh_pages pages }) → opened file ≡ fresh_world pages }
+    ensures { (file : List ℕ) (pages : ℕ) → 0 < pages → IsStore file (record { commits = 0; pages = fresh_pages pages })
+        → opened file ≡ fresh_world pages }
 {}

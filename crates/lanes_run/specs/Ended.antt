@@ -37,22 +37,27 @@ IsLanesEnd status = ⊥
 
 module _ {D : Type 0} (disks : DiskOf D) where
   -- the lanes of a script ran, from one core to another
-  pub record LanesEnded (status : Status) (old new : Seen D) (lines : List (List ℕ)) (held_before held_now : Option (List ℕ)) : Type 0 where
+  pub record LanesEnded (status : Status) (old new : Seen D) (lines : List (List ℕ))
+      (held_before held_now : Option (List ℕ)) : Type 0 where
     pub chronicle : List Event
     pub kept : IsKept disks old new chronicle
     pub is_end : IsLanesEnd status
-    pub follow : (said : List LaneLine) → SayInLanes lines said → LanesFollow (IsKnown (disks.content old.disk) (history chronicle)) old.world (is_whole status) said (history chronicle)
+    pub follow : (said : List LaneLine) → SayInLanes lines said
+        → LanesFollow (IsKnown (disks.content old.disk) (history chronicle)) old.world (is_whole status) said
+        (history chronicle)
     pub written : WrittenBy status held_before held_now (history chronicle)
     pub ends : EndsBy status new.world
 
   -- a script was read and run, or refused, from the core just opened to how it stands now
-  pub record StoreLanes (status : Status) (old new : Seen D) (left_before left_now held_before held_now : Option (List ℕ)) : Type 0 where
+  pub record StoreLanes (status : Status) (old new : Seen D)
+      (left_before left_now held_before held_now : Option (List ℕ)) : Type 0 where
     pub lawful : IsLawful old.world
     pub chronicle : List Event
     pub kept : IsKept disks old new chronicle
     pub taken : List ℕ
     pub said : List LaneLine
     pub consumed : Consumes left_before left_now taken
-    pub did : DidBy status (IsKnown (disks.content old.disk) (history chronicle)) old.world taken left_now said (history chronicle)
+    pub did : DidBy status (IsKnown (disks.content old.disk) (history chronicle)) old.world taken left_now said
+        (history chronicle)
     pub written : WrittenBy status held_before held_now (history chronicle)
     pub ends : EndsBy status new.world

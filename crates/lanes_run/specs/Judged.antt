@@ -1,4 +1,5 @@
--- How a script of lanes is judged. Of all that can be wrong what counts at the earliest byte is told: a bad line counts at its 201st byte, and a
+-- How a script of lanes is judged. Of all that can be wrong what counts at the earliest byte is told: a bad line
+-- counts at its 201st byte, and a
 -- shorter one at its line end or at the end of input.
 use Rattle.std.specs.Prelude.{◌≡◌, ◌⊎◌, ℕ, ◌+◌, ◌≤◌, ◌<◌, List, [], ◌∷◌, ◌++◌, length, Option}
 use Rattle.std.specs.Io.KnownBytes.{IsAtEnd}
@@ -29,7 +30,8 @@ pub record HasBadLine (taken : List ℕ) (left : Option (List ℕ)) (said : List
   pub says : SayInLanes good said
   pub is_bad : IsBadInLanes bad column
 
--- No bad line counts among these bytes: the whole lines say this, and what stands behind them isn't too long for a line.
+-- No bad line counts among these bytes: the whole lines say this, and what stands behind them isn't too long for a
+-- line.
 pub record AreGoodSoFar (bytes : List ℕ) (said : List LaneLine) : Type 0 where
   pub within : length bytes ≤ SCRIPT_LIMIT
   pub front : List ℕ

@@ -64,7 +64,8 @@ FrontStopped bytes before status = ⊥
 
 -- the whole lines of some bytes were judged, and so many bytes are left
 abbrev pub FrontJudged : ℕ → List ℕ → Tally → Result (Tally × ℕ) Status → Type 0
-FrontJudged pages bytes before (Ok end) = (rest : List ℕ) × FrontCounted pages bytes before end.0 rest × Without 10 rest × (length rest ≡ end.1)
+FrontJudged pages bytes before (Ok end) = (rest : List ℕ) × FrontCounted pages bytes before end.0 rest
+    × Without 10 rest × (length rest ≡ end.1)
 FrontJudged pages bytes before (Err status) = FrontStopped bytes before status
 
 -- the same of a piece: what is left is an unended line that isn't too long
@@ -98,15 +99,18 @@ LastJudged pages bytes before (Err status) = ⊥
 
 -- so many entries are asked for in all, which aren't too many; or they are
 abbrev pub EndJudged : ℕ → List ℕ → Tally → Result ℕ Status → Type 0
-EndJudged pages bytes before (Ok entries) = (now : Tally) × LastCounted pages bytes before now × (entries ≡ now.entries) × (now.entries ≤ MOST_ENTRIES)
-EndJudged pages bytes before (Err TooLong) = (now : Tally) × LastCounted pages bytes before now × (MOST_ENTRIES < now.entries)
+EndJudged pages bytes before (Ok entries) = (now : Tally) × LastCounted pages bytes before now
+    × (entries ≡ now.entries) × (now.entries ≤ MOST_ENTRIES)
+EndJudged pages bytes before (Err TooLong) = (now : Tally) × LastCounted pages bytes before now
+    × (MOST_ENTRIES < now.entries)
 EndJudged pages bytes before (Err (BadLine line column)) = LastBad bytes before line column
 EndJudged pages bytes before (Err status) = ⊥
 
 -- ---- the whole
 
 -- a script was read that is right, and asks for so many entries
-pub record ScriptRight (pages : ℕ) (left_before left_now : Option (List ℕ)) (bytes : List ℕ) (entries : ℕ) : Type 0 where
+pub record ScriptRight (pages : ℕ) (left_before left_now : Option (List ℕ)) (bytes : List ℕ)
+    (entries : ℕ) : Type 0 where
   pub consumed : Consumes left_before left_now bytes
   pub said : List LaneLine
   pub right : AreRight pages bytes left_now said
@@ -124,5 +128,6 @@ BytesRead pages left_before left_now bytes (Ok entries) = ScriptRight pages left
 BytesRead pages left_before left_now bytes (Err status) = ScriptRefused status pages left_before left_now
 
 abbrev pub ScriptRead : ℕ → Option (List ℕ) → Option (List ℕ) → Result Script Status → Type 0
-ScriptRead pages left_before left_now (Ok script) = ScriptRight pages left_before left_now script.bytes.items script.entries
+ScriptRead pages left_before left_now
+    (Ok script) = ScriptRight pages left_before left_now script.bytes.items script.entries
 ScriptRead pages left_before left_now (Err status) = ScriptRefused status pages left_before left_now

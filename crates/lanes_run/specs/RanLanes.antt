@@ -22,9 +22,11 @@ use Rattle.lanes_run.specs.Judged.{AreRight, RefusedBy}
 
 -- ---- which lines were run
 
--- A lane's events follow its lines that are past, and perhaps a part of its next one. Where it went to the end all are past. The former is said
+-- A lane's events follow its lines that are past, and perhaps a part of its next one. Where it went to the end all
+-- are past. The former is said
 -- where it is known what the reopenings found.
-pub record LaneFollows (known : Type 0) (w : World) (lane : ℕ) (whole : Bool) (said : List LaneLine) (history : List Event) : Type 0 where
+pub record LaneFollows (known : Type 0) (w : World) (lane : ℕ) (whole : Bool) (said : List LaneLine)
+    (history : List Event) : Type 0 where
   pub past : List LaneLine
   pub future : List LaneLine
   pub split : said ≡ past ++ future
@@ -32,18 +34,23 @@ pub record LaneFollows (known : Type 0) (w : World) (lane : ℕ) (whole : Bool) 
   pub follows : known → FollowsTo w.pages lane past future (events_of_lane lane (world_events w history))
 
 -- each event is one of a lane, 1 to 16, and each lane's events follow its lines
-pub record LanesFollow (known : Type 0) (w : World) (whole : Bool) (said : List LaneLine) (history : List Event) : Type 0 where
+pub record LanesFollow (known : Type 0) (w : World) (whole : Bool) (said : List LaneLine)
+    (history : List Event) : Type 0 where
   pub of_lanes : AllByRecursion (λ (e : Event). (1 ≤ e.entry.lane) × (e.entry.lane ≤ 16)) history
   pub each : (lane : ℕ) → 1 ≤ lane → lane ≤ 16 → LaneFollows known w lane whole said history
 
--- What was read, and which lines were run: all, or, where a lane may have stopped for want of memory, some of each lane. No call was made where
+-- What was read, and which lines were run: all, or, where a lane may have stopped for want of memory, some of each
+-- lane. No call was made where
 -- the script was refused.
 abbrev pub DidBy : Status → Type 0 → World → List ℕ → Option (List ℕ) → List LaneLine → List Event → Type 0
 DidBy Done known w taken left said history = AreRight w.pages taken left said × LanesFollow known w true said history
-DidBy DiskFault known w taken left said history = AreRight w.pages taken left said × LanesFollow known w true said history
-DidBy WriteFault known w taken left said history = AreRight w.pages taken left said × LanesFollow known w false said history
+DidBy DiskFault known w taken left said history = AreRight w.pages taken left said
+    × LanesFollow known w true said history
+DidBy WriteFault known w taken left said history = AreRight w.pages taken left said
+    × LanesFollow known w false said history
 DidBy Memory known w taken left said history =
-    (AreRight w.pages taken left said × LanesFollow known w false said history) ⊎ (RefusedBy Memory w.pages taken left said × (history ≡ []))
+    (AreRight w.pages taken left said × LanesFollow known w false said history)
+    ⊎ (RefusedBy Memory w.pages taken left said × (history ≡ []))
 DidBy status known w taken left said history = RefusedBy status w.pages taken left said × (history ≡ [])
 
 -- ---- what was written
@@ -55,8 +62,10 @@ WrittenBy status before now history = Appends before now (chronicle_text history
 
 -- ---- the whole
 
--- One history, legal from the world that the store opens to, says what was read, done and written, what was freed, and what a crash leaves.
-pub record RanLanes {D : Type 0} (disks : DiskOf D) (status : Status) (old new : D) (left_before left_now held_before held_now : Option (List ℕ)) : Type 0 where
+-- One history, legal from the world that the store opens to, says what was read, done and written, what was freed,
+-- and what a crash leaves.
+pub record RanLanes {D : Type 0} (disks : DiskOf D) (status : Status) (old new : D)
+    (left_before left_now held_before held_now : Option (List ℕ)) : Type 0 where
   pub world : World
   pub history : List Event
   pub last : World

@@ -1,4 +1,5 @@
--- The rule of the words, and what each step tells. Page p has the words 3 p (marked), 3 p + 1 (taken to scan) and 3 p + 2 (scanned).
+-- The rule of the words, and what each step tells. Page p has the words 3 p (marked), 3 p + 1 (taken to scan) and 3 p
+-- + 2 (scanned).
 use Rattle.std.specs.Prelude.{◌≡◌, ℕ, ◌+◌, ◌-◌, ◌*◌, ◌^◌, ◌<◌, ◌≤◌, ◌==◌, cond, Option, Some, None, List, [], ◌∷◌, ◌++◌, length, slice_index, zero, suc}
 use Rattle.std.specs.Int.{bit_at}
 use Rattle.object_graph.specs.Totals.{total}
@@ -12,7 +13,8 @@ use Rattle.mark_pool.specs.declared.view.View.{View}
 use Rattle.mark_pool.specs.Edges.{place, IsMarkAt, IsEdge}
 
 abbrev pub view : List Place → List Place → List Place → List Place → ℕ → Option ClosedParts → View
-view seen claims takes scans parts cut = record { seen = seen; claims = claims; takes = takes; scans = scans; parts = parts; cut = cut }
+view seen claims takes scans parts cut =
+    record { seen = seen; claims = claims; takes = takes; scans = scans; parts = parts; cut = cut }
 
 -- the parts of all seats of a table
 abbrev pub all_parts : ℕ
@@ -41,7 +43,8 @@ pub record Fits (of : ClosedParts) (words : List ℕ) (v : View) : Type 0 where
   pub known : 0 < v.parts → v.cut ≡ Some of
   pub bare : v.parts ≡ 0 → (v.claims ≡ []) × (v.takes ≡ [])
 
--- each mark that is set is a mark of the cut and stands in the claims of one view; each place that is taken stands in the takes of one; of a
+-- each mark that is set is a mark of the cut and stands in the claims of one view; each place that is taken stands in
+-- the takes of one; of a
 -- place that is scanned all targets are marked
 pub record Ruled (cut : ClosedParts) (s : State (Unit {0}) View) : Type 0 where
   pub wide : length s.words ≡ 3 * length cut.pages
@@ -71,36 +74,44 @@ IsAt st kind page slot = (st.word ≡ 3 * page + kind) × (st.first ≡ 2 ^ slot
 -- a mark is seen, and claimed where it wasn't set; the seat with all parts has claimed what is marked
 abbrev pub claimed : Step (Unit {0}) → Sat → ℕ → Sat → Type 0
 claimed st m n m' = (page slot : ℕ) → IsAt st 0 page slot
-    → (m'.0 ≡ view (place page slot ∷ m.0.seen) (added (bit_at n slot) (place page slot) m.0.claims) m.0.takes m.0.scans m.0.parts m.0.cut) × (m'.1 ≡ m.1)
+    → (m'.0 ≡ view (place page slot
+    ∷ m.0.seen) (added (bit_at n slot) (place page slot) m.0.claims) m.0.takes m.0.scans m.0.parts m.0.cut)
+    × (m'.1 ≡ m.1)
     × (m.0.parts ≡ all_parts → times page slot m.0.claims ≡ bit_at n slot)
 
 -- a place is taken where it wasn't; the seat with all parts has taken what is taken
 abbrev pub took : Step (Unit {0}) → Sat → ℕ → Sat → Type 0
 took st m n m' = (page slot : ℕ) → IsAt st 1 page slot
-    → (m'.0 ≡ view m.0.seen m.0.claims (added (bit_at n slot) (place page slot) m.0.takes) m.0.scans m.0.parts m.0.cut) × (m'.1 ≡ m.1)
+    → (m'.0 ≡ view m.0.seen m.0.claims
+    (added (bit_at n slot) (place page slot) m.0.takes) m.0.scans m.0.parts m.0.cut) × (m'.1 ≡ m.1)
     × (m.0.parts ≡ all_parts → times page slot m.0.takes ≡ bit_at n slot)
 
 -- the place is known to be scanned
 abbrev pub scanned : Step (Unit {0}) → Sat → ℕ → Sat → Type 0
-scanned st m n m' = (page slot : ℕ) → IsAt st 2 page slot → (m'.0 ≡ view m.0.seen m.0.claims m.0.takes (place page slot ∷ m.0.scans) m.0.parts m.0.cut) × (m'.1 ≡ m.1)
+scanned st m n m' = (page slot : ℕ) → IsAt st 2 page slot
+    → (m'.0 ≡ view m.0.seen m.0.claims m.0.takes (place page slot ∷ m.0.scans) m.0.parts m.0.cut) × (m'.1 ≡ m.1)
 
 -- the slots below k whose bit is 1 in the word
 abbrev pub marked_of : ℕ → ℕ → ℕ → List Place
 marked_of page n zero = []
 marked_of page n (suc k) = cond (bit_at n k == 1) (place page k ∷ marked_of page n k) (marked_of page n k)
 
--- each mark of the page that was found is seen, and is a mark of the cut; the seat with all parts has claimed just these
+-- each mark of the page that was found is seen, and is a mark of the cut; the seat with all parts has claimed just
+-- these
 abbrev pub saw : Step (Unit {0}) → Sat → ℕ → Sat → Type 0
 saw st m n m' = (page : ℕ) → st.word ≡ 3 * page + 0
     → (m'.0 ≡ view (marked_of page n 64 ++ m.0.seen) m.0.claims m.0.takes m.0.scans m.0.parts m.0.cut) × (m'.1 ≡ m.1)
-    × ((cut : ClosedParts) (slot : ℕ) → m.0.cut ≡ Some cut → bit_at n slot ≡ 1 → IsMarkAt cut page slot × (slot < MOST_SLOTS))
+    × ((cut : ClosedParts) (slot : ℕ) → m.0.cut ≡ Some cut → bit_at n slot ≡ 1 → IsMarkAt cut page slot
+    × (slot < MOST_SLOTS))
     × (m.0.parts ≡ all_parts → (slot : ℕ) → times page slot m.0.claims ≡ bit_at n slot)
 
--- the seat with all parts has claimed all targets of each place of the page that was found scanned; what a seat knows to be scanned was found so
+-- the seat with all parts has claimed all targets of each place of the page that was found scanned; what a seat knows
+-- to be scanned was found so
 abbrev pub saw_scanned : Step (Unit {0}) → Sat → ℕ → Sat → Type 0
 saw_scanned st m n m' = (page : ℕ) → st.word ≡ 3 * page + 2
     → (m' ≡ m)
-    × ((cut : ClosedParts) (slot : ℕ) (to : Place) → m.0.cut ≡ Some cut → m.0.parts ≡ all_parts → bit_at n slot ≡ 1 → IsEdge cut page slot to → 0 < times to.page to.slot m.0.claims)
+    × ((cut : ClosedParts) (slot : ℕ) (to : Place) → m.0.cut ≡ Some cut → m.0.parts ≡ all_parts → bit_at n slot ≡ 1
+    → IsEdge cut page slot to → 0 < times to.page to.slot m.0.claims)
     × ((slot : ℕ) → 0 < times page slot m.0.scans → bit_at n slot ≡ 1)
 
 -- no place stands twice in the claims or in the takes
@@ -116,7 +127,8 @@ half v = view v.seen [] [] v.scans 1 v.cut
 
 -- two views in one, and what is left of the second
 abbrev pub joined : View → View → View
-joined v w = view (v.seen ++ w.seen) (v.claims ++ w.claims) (v.takes ++ w.takes) (v.scans ++ w.scans) (v.parts + w.parts) v.cut
+joined v w = view (v.seen ++ w.seen) (v.claims ++ w.claims) (v.takes ++ w.takes) (v.scans ++ w.scans)
+    (v.parts + w.parts) v.cut
 
 abbrev pub empty_view : View
 empty_view = view [] [] [] [] 0 None

@@ -12,7 +12,8 @@ pub record Made : Type 0 where
   pub table : TableId
   pub cut : ClosedParts
 
--- a seat: its table, the cut that is marked there, the places that it saw marked, those that it marked, those that it took to scan, those that it
+-- a seat: its table, the cut that is marked there, the places that it saw marked, those that it marked, those that it
+-- took to scan, those that it
 -- knows to be scanned, and its parts
 pub record Known : Type 0 where
   pub table : TableId
@@ -24,7 +25,16 @@ pub record Known : Type 0 where
   pub parts : ℕ
 
 abbrev pub known : TableId → View → Known
-known table v = record { table = table; cut = v.cut; seen = v.seen; claims = v.claims; takes = v.takes; scans = v.scans; parts = v.parts }
+known table v = record {
+  table = table;
+  cut = v.cut;
+  seen = v.seen;
+  claims = v.claims;
+  takes = v.takes;
+  scans =
+      v.scans;
+  parts = v.parts;
+}
 
 -- the seat is this table's
 abbrev pub IsOf : Made → Known → Type 0
@@ -32,11 +42,24 @@ IsOf t s = (s.table ≡ t.table) × (s.cut ≡ Some t.cut)
 
 -- the first seat of a table has all parts
 abbrev pub first_seat : Made → Known
-first_seat t = record { table = t.table; cut = Some t.cut; seen = []; claims = []; takes = []; scans = []; parts = all_parts }
+first_seat t = record {
+  table = t.table;
+  cut = Some t.cut;
+  seen = [];
+  claims = [];
+  takes = [];
+  scans = [];
+  parts =
+      all_parts;
+}
 
 -- a seat that saw a place marked, and marked it where it was new
 abbrev pub with_claim : Known → ℕ → ℕ → Bool → Known
-with_claim s page slot new = record s { seen = place page slot ∷ s.seen; claims = (if new then place page slot ∷ s.claims else s.claims) }
+with_claim s page slot new = record s {
+  seen = place page slot
+      ∷ s.seen;
+  claims = (if new then place page slot ∷ s.claims else s.claims);
+}
 
 -- a seat that took a place to scan, where it was new
 abbrev pub with_take : Known → ℕ → ℕ → Bool → Known
@@ -59,4 +82,11 @@ split_off s = record s { claims = []; takes = []; parts = 1 }
 
 -- two seats in one
 abbrev pub joined_seats : Known → Known → Known
-joined_seats s other = record s { seen = s.seen ++ other.seen; claims = s.claims ++ other.claims; takes = s.takes ++ other.takes; scans = s.scans ++ other.scans; parts = s.parts + other.parts }
+joined_seats s other = record s {
+  seen = s.seen ++ other.seen;
+  claims = s.claims ++ other.claims;
+  takes = s.takes
+      ++ other.takes;
+  scans = s.scans ++ other.scans;
+  parts = s.parts + other.parts;
+}

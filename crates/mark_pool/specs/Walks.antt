@@ -49,7 +49,8 @@ pub record Scans (at : Place) (before after : Known) : Type 0 where
 abbrev pub IsTidy : Known → Type 0
 IsTidy s = (page slot : ℕ) → 0 < times page slot s.takes → 0 < times page slot s.scans
 
--- a seat that did some work: it stands where it stood, still has what it marked and knows what it knew, and scanned what it took
+-- a seat that did some work: it stands where it stood, still has what it marked and knows what it knew, and scanned
+-- what it took
 pub record Works (before after : Known) : Type 0 where
   pub table : after.table ≡ before.table
   pub cut : after.cut ≡ before.cut
@@ -88,12 +89,14 @@ AreMarked cut refs = (to : NameParts) → IsTarget cut refs to → IsMarkAt cut 
 -- each target of the object at a place, in one image of its page, was seen marked
 abbrev pub IsFollowed : ClosedParts → ℕ → ℕ → ℕ → List Place → Type 0
 IsFollowed cut page slot which seen =
-    (slots : List SlotParts) → image_of (page_of cut.pages page) which ≡ Some slots → (slot_at (as_page page slots) slot).in_use ≡ true
+    (slots : List SlotParts) → image_of (page_of cut.pages page) which ≡ Some slots
+    → (slot_at (as_page page slots) slot).in_use ≡ true
     → AreSeen cut (slot_at (as_page page slots) slot).refs seen
 
 -- the claims have all targets of the claims on a page
 abbrev pub IsClosedOn : ClosedParts → List Place → ℕ → Type 0
-IsClosedOn cut claims page = (slot : ℕ) (to : Place) → 0 < times page slot claims → IsEdge cut page slot to → 0 < times to.page to.slot claims
+IsClosedOn cut claims page = (slot : ℕ) (to : Place) → 0 < times page slot claims → IsEdge cut page slot to
+    → 0 < times to.page to.slot claims
 
 abbrev pub AreClosedOn : ClosedParts → List Place → ℕ → Type 0
 AreClosedOn cut claims pages = (page : ℕ) → page < pages → IsClosedOn cut claims page

@@ -59,7 +59,8 @@ refers graph from to = list_any (λ o. name_eq o.name from && list_any (is_to to
 -- a path in the graph: each name is one of the graph, and each after the first is a reference of the object before it
 abbrev pub IsPath : List ObjectParts → NameParts → List NameParts → NameParts → Type 0
 IsPath graph first [] last = (first ≡ last) × IsTrue (has_object graph first)
-IsPath graph first (next ∷ rest) last = IsTrue (refers graph first next) × IsTrue (has_object graph first) × IsPath graph next rest last
+IsPath graph first (next ∷ rest) last = IsTrue (refers graph first next) × IsTrue (has_object graph first)
+    × IsPath graph next rest last
 
 -- the last name is on a path from the first
 abbrev pub Leads : List ObjectParts → NameParts → NameParts → Type 0

@@ -33,11 +33,15 @@ reverted frame = clean_frame frame.before
 
 -- a page after some of its slots were freed
 abbrev pub freed_page : ℕ → PageParts → PageParts
-freed_page slots page = record page { slots = map (λ slot. slot_freed slots slot (slot_at page slot)) (range_with_len 0 (length page.slots)) }
+freed_page slots page = record page {
+  slots = map (λ slot. slot_freed slots slot (slot_at page slot))
+      (range_with_len 0 (length page.slots));
+}
 
 -- a frame after some slots were freed in both images
 abbrev pub freed_frame : ℕ → Frame → Frame
-freed_frame slots frame = record { current = freed_page slots frame.current; before = freed_page slots frame.before; dirty = frame.dirty }
+freed_frame slots frame =
+    record { current = freed_page slots frame.current; before = freed_page slots frame.before; dirty = frame.dirty }
 
 -- what each frame keeps: a clean one has equal images, both are of one page, and what is in use in
 -- the committed image is in use in the current one

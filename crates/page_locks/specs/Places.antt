@@ -40,7 +40,12 @@ pages_of mode holders place = map (λ h. has_bit (word_of mode h) place) holders
 -- the locks of those admitted
 abbrev pub locks_of : List Holders → List Admitted → List Held
 locks_of holders admitted =
-    map (λ a. record { txn = a.txn; shared = pages_of Shared holders a.place; exclusive = pages_of Exclusive holders a.place }) admitted
+    map (λ a. record {
+      txn = a.txn;
+      shared = pages_of Shared holders a.place;
+      exclusive = pages_of Exclusive holders
+          a.place;
+    }) admitted
 
 abbrev pub numbers_in : List Admitted → List ℕ
 numbers_in admitted = map (λ a. a.txn) admitted
@@ -64,7 +69,8 @@ pub record AreSeated (held : List Admitted) (seats : List Seat) : Type 0 where
 -- what a place holds is among the pages that it may hold, and a free place holds none
 pub record AreCovered (pages : ℕ) (holders : List Holders) (seats : List Seat) : Type 0 where
   pub count : length holders ≡ pages
-  pub covered : (mode : Mode) (page place : ℕ) → place < MOST_OPEN → is_held mode holders page place ≡ true → may_hold seats place page ≡ true
+  pub covered : (mode : Mode) (page place : ℕ) → place < MOST_OPEN → is_held mode holders page place ≡ true
+      → may_hold seats place page ≡ true
   pub empty : (place page : ℕ) → number_at seats place ≡ None → may_hold seats place page ≡ false
   pub room : (place : ℕ) → place < MOST_OPEN → HasRoom pages (seat_at seats place).pages
 
@@ -97,9 +103,11 @@ smaller_of (Some n) (Some least) = if nat_lt least n then Some least else Some n
 -- ---- what a lock of a mode is
 
 -- the least number that is in the way of the one at a place, if any is
-pub record IsLeastInWay (holders : List Holders) (seats : List Seat) (place page : ℕ) (mode : Mode) (least : Option ℕ) : Type 0 where
+pub record IsLeastInWay (holders : List Holders) (seats : List Seat) (place page : ℕ) (mode : Mode)
+    (least : Option ℕ) : Type 0 where
   pub places : ℕ
-  pub each : (q : ℕ) → q < MOST_OPEN → has_bit places q ≡ (not (q == place) && conflicts mode (holders_at holders page) q)
+  pub each : (q : ℕ) → q < MOST_OPEN
+      → has_bit places q ≡ (not (q == place) && conflicts mode (holders_at holders page) q)
   pub is_least : IsLeastMarked seats places MOST_OPEN least
 
 -- one more lock

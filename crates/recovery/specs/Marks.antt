@@ -1,4 +1,5 @@
--- Marks of places, one set of slots for each page, and a walk that marks what is reached from the root and notes the least
+-- Marks of places, one set of slots for each page, and a walk that marks what is reached from the root and notes the
+-- least
 -- place of a reference that dangles.
 use Rattle.std.specs.Prelude.{◌≡◌, ◌⊎◌, ℕ, ◌+◌, ◌*◌, ◌<◌, ◌≤◌, Bool, true, false, not, List, [], ◌∷◌, length, filter, Option, Some, None, slice_get, slice_index, sum_by}
 use Rattle.object_graph.specs.declared.limits.TheConstants.{MOST_SLOTS}
@@ -31,14 +32,17 @@ abbrev pub work_left : List NameParts → List ℕ → ℕ
 work_left todo marks = length todo + 2 * places_left marks
 
 -- the wanted names that are in use were marked, and those that weren't marked before are to be followed
-pub record IsMarkedMore (images : List (List SlotParts)) (wanted : NameParts → Bool) (todo : List NameParts) (marks : List ℕ) (todo' : List NameParts) (marks' : List ℕ) : Type 0 where
+pub record IsMarkedMore (images : List (List SlotParts)) (wanted : NameParts
+    → Bool) (todo : List NameParts) (marks : List ℕ) (todo' : List NameParts) (marks' : List ℕ) : Type 0 where
   pub long : length marks' ≡ length marks
   pub less : work_left todo' marks' ≤ work_left todo marks
   pub kept : (name : NameParts) → is_marked marks name ≡ true → is_marked marks' name ≡ true
   pub still : (name : NameParts) → In name todo → In name todo'
   pub done : (name : NameParts) → is_name_in_use images name ≡ true → wanted name ≡ true → is_marked marks' name ≡ true
-  pub new : (name : NameParts) → is_name_in_use images name ≡ true → is_marked marks' name ≡ true → (is_marked marks name ≡ true) ⊎ In name todo'
-  pub only : (name : NameParts) → In name todo' → In name todo ⊎ ((wanted name ≡ true) × (is_name_in_use images name ≡ true) × (is_marked marks' name ≡ true))
+  pub new : (name : NameParts) → is_name_in_use images name ≡ true → is_marked marks' name ≡ true
+      → (is_marked marks name ≡ true) ⊎ In name todo'
+  pub only : (name : NameParts) → In name todo' → In name todo
+      ⊎ ((wanted name ≡ true) × (is_name_in_use images name ≡ true) × (is_marked marks' name ≡ true))
 
 -- ---- references that dangle
 
@@ -53,7 +57,8 @@ IsUpTo None at = ⊥
 IsUpTo (Some least) at = least ≤ at
 
 -- a reference of these, of the object of this name, dangles at this place
-pub record DanglesFrom (images : List (List SlotParts)) (name : NameParts) (refs : List (Option NameParts)) (at : ℕ) : Type 0 where
+pub record DanglesFrom (images : List (List SlotParts)) (name : NameParts) (refs : List (Option NameParts))
+    (at : ℕ) : Type 0 where
   pub field : ℕ
   pub target : Option NameParts
   pub there : slice_get refs field ≡ Some target
@@ -61,15 +66,18 @@ pub record DanglesFrom (images : List (List SlotParts)) (name : NameParts) (refs
   pub place : at ≡ reference_place name field
 
 -- one reference was looked at: the least place so far is its place, where it dangles and there was none less
-pub record IsNotedAt (images : List (List SlotParts)) (target : Option NameParts) (place : ℕ) (least least' : Option ℕ) : Type 0 where
+pub record IsNotedAt (images : List (List SlotParts)) (target : Option NameParts) (place : ℕ)
+    (least least' : Option ℕ) : Type 0 where
   pub kept : (at : ℕ) → IsUpTo least at → IsUpTo least' at
   pub noted : is_dangling images target ≡ true → IsUpTo least' place
   pub only : (at : ℕ) → least' ≡ Some at → (least ≡ Some at) ⊎ ((is_dangling images target ≡ true) × (at ≡ place))
 
 -- so were the first ones of the references of an object
-pub record AreNoted (images : List (List SlotParts)) (name : NameParts) (refs : List (Option NameParts)) (count : ℕ) (least least' : Option ℕ) : Type 0 where
+pub record AreNoted (images : List (List SlotParts)) (name : NameParts) (refs : List (Option NameParts)) (count : ℕ)
+    (least least' : Option ℕ) : Type 0 where
   pub kept : (at : ℕ) → IsUpTo least at → IsUpTo least' at
-  pub noted : (field : ℕ) (target : Option NameParts) → field < count → slice_get refs field ≡ Some target → is_dangling images target ≡ true → IsUpTo least' (reference_place name field)
+  pub noted : (field : ℕ) (target : Option NameParts) → field < count → slice_get refs field ≡ Some target
+      → is_dangling images target ≡ true → IsUpTo least' (reference_place name field)
   pub only : (at : ℕ) → least' ≡ Some at → (least ≡ Some at) ⊎ DanglesFrom images name refs at
 
 -- this is the least place of a reference that dangles, if there is one

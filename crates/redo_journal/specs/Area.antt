@@ -29,7 +29,8 @@ base_in bytes = from_be_bytes w64 (take 8 bytes)
 
 -- what the bytes of an area hold, or the place of the first wrong field
 abbrev pub read_area : {R : Type 0} → Grammar R → ℕ → List ℕ → Result (Contents R) ℕ
-read_area g start bytes = if nat_lt MOST_COUNTED (base_in bytes) then Err start else from_base (base_in bytes) (walk g start (base_in bytes) first_gate bytes)
+read_area g start bytes = if nat_lt MOST_COUNTED (base_in bytes) then Err start
+    else from_base (base_in bytes) (walk g start (base_in bytes) first_gate bytes)
 
 -- the bytes of an area in a store file
 abbrev pub area_of : ℕ → List ℕ → List ℕ
@@ -42,7 +43,8 @@ pub record Holds {R : Type 0} (g : Grammar R) (area base : ℕ) (records : List 
 
 -- the records before, with the new one or without
 abbrev pub HoldsBeforeOrAfter : {R : Type 0} → Grammar R → ℕ → ℕ → List R → R → List ℕ → Type 0
-HoldsBeforeOrAfter g area base records new file = Holds g area base records file ⊎ Holds g area base (records ++ new ∷ []) file
+HoldsBeforeOrAfter g area base records new file = Holds g area base records file
+    ⊎ Holds g area base (records ++ new ∷ []) file
 
 -- Bytes that are a record with its closed gate, which may stand behind `done` commits.
 pub record IsStaged {R : Type 0} (g : Grammar R) (done : ℕ) (new : R) (bytes : List ℕ) : Type 0 where

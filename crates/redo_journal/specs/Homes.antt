@@ -25,7 +25,8 @@ IsInHome page at = (home_start page ≤ at) × (at < home_start page + PAGE_SIZE
 -- they differ in the homes alone of such pages
 pub record DiffersInHomes (named : ℕ → Bool) (old new : List ℕ) : Type 0 where
   pub same_length : length new ≡ length old
-  pub elsewhere : (at : ℕ) → ((page : ℕ) → named page ≡ true → IsInHome page at → ⊥) → slice_index new at ≡ slice_index old at
+  pub elsewhere : (at : ℕ) → ((page : ℕ) → named page ≡ true → IsInHome page at → ⊥)
+      → slice_index new at ≡ slice_index old at
 
 -- each page among the images has the last of them at home, and all else is as before
 pub record AreHome (images : List PageParts) (old new : List ℕ) : Type 0 where

@@ -77,11 +77,13 @@ appended r journal = record journal {
 
 -- What a crash leaves while a record is appended: all bytes outside the area, and in it the records from
 -- before, with the new one or without.
-pub record IsAppendedOrNot (journal : JournalParts) (records : List RecordParts) (new : RecordParts) (old file : List ℕ) : Type 0 where
+pub record IsAppendedOrNot (journal : JournalParts) (records : List RecordParts) (new : RecordParts)
+    (old file : List ℕ) : Type 0 where
   pub elsewhere : Torn (area_start journal.area) AREA_SIZE old file
   pub area : HoldsBeforeOrAfter (grammar journal.pages) journal.area journal.base records new file
 
 -- the file after the append: all bytes outside the area, and in it the records with the new one
-pub record IsAppended (journal : JournalParts) (records : List RecordParts) (new : RecordParts) (old file : List ℕ) : Type 0 where
+pub record IsAppended (journal : JournalParts) (records : List RecordParts) (new : RecordParts)
+    (old file : List ℕ) : Type 0 where
   pub elsewhere : Torn (area_start journal.area) AREA_SIZE old file
   pub area : HoldsFor journal (records ++ new ∷ []) file

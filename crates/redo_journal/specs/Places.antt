@@ -30,6 +30,7 @@ has_place places page = list_any (λ place. place.page == page) places
 -- at these places stand images of these pages
 abbrev pub StandAt : List ImagePlace → List PageParts → List ℕ → Type 0
 StandAt [] [] file = ⊤
-StandAt (place ∷ places) (p ∷ ps) file = (place.page ≡ p.number) × (page_at (piece place.at PAGE_SIZE file) ≡ Ok p) × StandAt places ps file
+StandAt (place ∷ places) (p ∷ ps) file = (place.page ≡ p.number) × (page_at (piece place.at PAGE_SIZE file) ≡ Ok p)
+    × StandAt places ps file
 StandAt [] (p ∷ ps) file = ⊥
 StandAt (place ∷ places) [] file = ⊥

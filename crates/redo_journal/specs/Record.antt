@@ -36,7 +36,8 @@ commits_in records = sum_by (λ r. commits_of r.kind) records
 -- one page with its number, which is at least `low` and below `pages`
 unfoldable pub image_at : ℕ → ℕ → ℕ → List ℕ → Result PageParts ℕ
 image_at pages place low bytes = do
-  number ← if nat_le low (from_be_bytes w32 (take 4 bytes)) && nat_lt (from_be_bytes w32 (take 4 bytes)) pages then Ok (from_be_bytes w32 (take 4 bytes)) else Err place
+  number ← if nat_le low (from_be_bytes w32 (take 4 bytes)) && nat_lt (from_be_bytes w32 (take 4 bytes)) pages
+      then Ok (from_be_bytes w32 (take 4 bytes)) else Err place
   image ← from_place (place + 4) (page_at (take PAGE_SIZE (drop 4 bytes)))
   if image.number == number then Ok image else Err (place + 8)
 
@@ -51,7 +52,8 @@ images_at pages place low (suc n) bytes = do
 -- the kind: a commit only where the number of commits may rise
 unfoldable pub kind_at : ℕ → ℕ → ℕ → Result Kind ℕ
 kind_at place done byte =
-    if byte == 1 then (if nat_lt done MOST_COUNTED then Ok Commit else Err place) else (if byte == 2 then Ok Sweep else Err place)
+    if byte == 1 then (if nat_lt done MOST_COUNTED then Ok Commit else Err place)
+    else (if byte == 2 then Ok Sweep else Err place)
 
 -- the counts that a kind may have
 abbrev pub is_count : Kind → ℕ → Bool
@@ -60,7 +62,8 @@ is_count Sweep count = count == 1
 
 -- the count, where its four bytes, so many pages and the next gate are among the `left` bytes from the kind on
 abbrev pub count_at : ℕ → Kind → ℕ → ℕ → Result ℕ ℕ
-count_at place kind left count = if nat_le 5 left && (is_count kind count && nat_le (FRAME_SIZE + IMAGE_SIZE * count) left) then Ok count else Err place
+count_at place kind left count = if nat_le 5 left
+    && (is_count kind count && nat_le (FRAME_SIZE + IMAGE_SIZE * count) left) then Ok count else Err place
 
 -- a record: kind, count, pages (past the area's end there is no kind)
 unfoldable pub record_at : ℕ → ℕ → ℕ → List ℕ → Result RecordParts ℕ

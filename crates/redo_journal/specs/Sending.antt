@@ -26,4 +26,5 @@ empty_area base = to_be_bytes w64 base ++ 0 ∷ []
 
 -- the journal of the other area, empty and with this base
 abbrev pub turned_over : ℕ → JournalParts → JournalParts
-turned_over commits journal = record journal { area = 1 - journal.area; base = commits; commits = 0; end = first_gate; places = [] }
+turned_over commits journal = record journal
+    { area = 1 - journal.area; base = commits; commits = 0; end = first_gate; places = [] }

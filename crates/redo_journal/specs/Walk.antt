@@ -26,7 +26,8 @@ abbrev pub walk : {R : Type 0} → Grammar R → ℕ → ℕ → ℕ → List �
 walk g place done skip [] = Err place
 walk g place done (suc skip) (b ∷ bytes) = walk g (place + 1) done skip bytes
 walk g place done zero (gate ∷ bytes) =
-    if gate == 1 then then_rest (g.at (place + 1) done bytes) (λ r. walk g (place + 1) (done + g.weight r) (g.size r) bytes) else Ok []
+    if gate == 1 then then_rest (g.at (place + 1) done bytes)
+    (λ r. walk g (place + 1) (done + g.weight r) (g.size r) bytes) else Ok []
 
 -- how many bytes the records take with their gates
 abbrev pub taken : {R : Type 0} → Grammar R → List R → ℕ

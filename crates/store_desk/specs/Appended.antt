@@ -52,17 +52,20 @@ pub record Appended {D : Type 0} (old new : State D) (Says : Event → Type 0) (
 
 -- ---- what a turn does
 
-pub record Did {D : Type 0} (disks : DiskOf D) (old new : State D) (lane : ℕ) (call : Call) (result : Result (Reply × ℕ) Memory) : Type 0 where
+pub record Did {D : Type 0} (disks : DiskOf D) (old new : State D) (lane : ℕ) (call : Call) (result : Result (Reply
+    × ℕ) Memory) : Type 0 where
   pub event : IfOk result (λ r. Appended old new (IsOf lane call r.0) r.1)
   pub none : OnErr result (new ≡ old)
   pub kept : IsKeptIn disks new
 
-pub record DidClose {D : Type 0} (disks : DiskOf D) (old new : State D) (lane : ℕ) (result : Result (Result ClosedParts Refusal × ℕ) Memory) : Type 0 where
+pub record DidClose {D : Type 0} (disks : DiskOf D) (old new : State D) (lane : ℕ)
+    (result : Result (Result ClosedParts Refusal × ℕ) Memory) : Type 0 where
   pub event : IfOk result (λ r. Appended old new (IsClosingOf lane r.0) r.1)
   pub none : OnErr result (new ≡ old)
   pub kept : IsKeptIn disks new
 
-pub record DidMark {D : Type 0} (disks : DiskOf D) (old new : State D) (lane workers : ℕ) (marked : Option MarkedParts) (result : Result (Reply × ℕ) (Option MarkedParts × Memory)) : Type 0 where
+pub record DidMark {D : Type 0} (disks : DiskOf D) (old new : State D) (lane workers : ℕ)
+    (marked : Option MarkedParts) (result : Result (Reply × ℕ) (Option MarkedParts × Memory)) : Type 0 where
   pub event : IfOk result (λ r. Appended old new (IsMarkingOf lane workers marked r.0) r.1)
   pub none : OnErr result (new ≡ old)
   pub back : IfErr result (λ e. e.0 ≡ marked)

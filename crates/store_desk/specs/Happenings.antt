@@ -27,14 +27,18 @@ pub record Happened {D : Type 0} (disks : DiskOf D) (old new : Seen D) (e : Even
   pub is : IsKnown (disks.content old.disk) (told e ∷ []) → new.world ≡ next old.world (told e)
   pub pages : new.world.pages ≡ old.world.pages
   pub cut : KeepsCut old.world e.note
-  pub given : (number : ℕ) (pages : List CutPage) → HasGiven old.world old.beside number pages → HasGiven new.world new.beside number pages
+  pub given : (number : ℕ) (pages : List CutPage) → HasGiven old.world old.beside number pages
+      → HasGiven new.world new.beside number pages
   pub gives : (cut : ClosedParts) → Keeps e.note cut → HasGiven new.world new.beside cut.number cut.pages
   pub keeps : KeepsDisk disks old.disk new.disk
-  pub any_moment : IfSome (disks.content old.disk) (λ _. LeavesOnly disks old.disk new.disk (StandsForEither old.world new.world))
-  pub now : IfSome (disks.content new.disk) (λ _. (file : List ℕ) → disks.may_leave new.disk file → StandsForWorld file new.world)
+  pub any_moment : IfSome (disks.content old.disk)
+      (λ _. LeavesOnly disks old.disk new.disk (StandsForEither old.world new.world))
+  pub now : IfSome (disks.content new.disk) (λ _. (file : List ℕ) → disks.may_leave new.disk file
+      → StandsForWorld file new.world)
   pub faults : FaultsAscend (disks.fault_count old.disk) (disks.fault_count new.disk) (told e ∷ [])
   pub calm : e.entry.reply ≢ Refused DiskFault → disks.fault_count new.disk ≡ disks.fault_count old.disk
-  pub cause : old.world.broken ≡ None → IsTrue (is_some new.world.broken) → Rose (disks.fault_count old.disk) (disks.fault_count new.disk)
+  pub cause : old.world.broken ≡ None → IsTrue (is_some new.world.broken)
+      → Rose (disks.fault_count old.disk) (disks.fault_count new.disk)
 
 -- a reopening that found these names freed
 abbrev pub reopening : Reply → List NameParts → Happening

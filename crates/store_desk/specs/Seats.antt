@@ -34,7 +34,8 @@ pub record Looked {D : Type 0} (disks : DiskOf D) (old new : AtDesk D) : Type 0 
   pub own : new.own ≡ old.own
 
 -- and the chronicle ends with one event, which says this, at this place, which is the seat's own from now on
-pub record Entered {D : Type 0} (disks : DiskOf D) (old new : AtDesk D) (Says : Event → Type 0) (place : ℕ) : Type 0 where
+pub record Entered {D : Type 0} (disks : DiskOf D) (old new : AtDesk D) (Says : Event
+    → Type 0) (place : ℕ) : Type 0 where
   pub saw : Saw disks old new
   pub before : List Event
   pub event : Event
@@ -50,11 +51,13 @@ Called disks old new lane call (Ok r) = Entered disks old new (IsOf lane call r.
 Called disks old new lane call (Err memory) = Looked disks old new
 
 -- the closing
-abbrev pub ClosedBy : {D : Type 0} → DiskOf D → AtDesk D → AtDesk D → ℕ → Result (Result ClosedParts Refusal × ℕ) Memory → Type 0
+abbrev pub ClosedBy : {D : Type 0} → DiskOf D → AtDesk D → AtDesk D → ℕ
+    → Result (Result ClosedParts Refusal × ℕ) Memory → Type 0
 ClosedBy disks old new lane (Ok r) = Entered disks old new (IsClosingOf lane r.0) r.1
 ClosedBy disks old new lane (Err memory) = Looked disks old new
 
 -- marks that were given
-abbrev pub MarkedBy : {D : Type 0} → DiskOf D → AtDesk D → AtDesk D → ℕ → ℕ → Option MarkedParts → Result (Reply × ℕ) (Option MarkedParts × Memory) → Type 0
+abbrev pub MarkedBy : {D : Type 0} → DiskOf D → AtDesk D → AtDesk D → ℕ → ℕ → Option MarkedParts
+    → Result (Reply × ℕ) (Option MarkedParts × Memory) → Type 0
 MarkedBy disks old new lane workers marked (Ok r) = Entered disks old new (IsMarkingOf lane workers marked r.0) r.1
 MarkedBy disks old new lane workers marked (Err back) = Looked disks old new

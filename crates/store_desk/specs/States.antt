@@ -26,15 +26,19 @@ pub record State (D : Type 0) : Type 0 where
 -- world after some first events of it. Of each cut that was given out the core knows the images.
 pub record IsKept {D : Type 0} (disks : DiskOf D) (start core : Seen D) (chronicle : List Event) : Type 0 where
   pub told : IsKnown (disks.content start.disk) (history chronicle) → IsChronicle start.world chronicle
-  pub leads : IsKnown (disks.content start.disk) (history chronicle) → core.world ≡ after start.world (history chronicle)
+  pub leads : IsKnown (disks.content start.disk) (history chronicle)
+      → core.world ≡ after start.world (history chronicle)
   pub pages : core.world.pages ≡ start.world.pages
   pub given : (cut : ClosedParts) → HasClosing chronicle cut → HasGiven core.world core.beside cut.number cut.pages
   pub keeps : KeepsDisk disks start.disk core.disk
-  pub any_moment : IfSome (disks.content start.disk) (λ _. LeavesOnly disks start.disk core.disk (StandsForFront start.world (history chronicle)))
-  pub now : IfSome (disks.content core.disk) (λ _. (file : List ℕ) → disks.may_leave core.disk file → StandsForWorld file core.world)
+  pub any_moment : IfSome (disks.content start.disk)
+      (λ _. LeavesOnly disks start.disk core.disk (StandsForFront start.world (history chronicle)))
+  pub now : IfSome (disks.content core.disk) (λ _. (file : List ℕ) → disks.may_leave core.disk file
+      → StandsForWorld file core.world)
   pub faults : FaultsAscend (disks.fault_count start.disk) (disks.fault_count core.disk) (history chronicle)
   pub calm : NoneFailed (history chronicle) → disks.fault_count core.disk ≡ disks.fault_count start.disk
-  pub cause : start.world.broken ≡ None → IsTrue (is_some core.world.broken) → Rose (disks.fault_count start.disk) (disks.fault_count core.disk)
+  pub cause : start.world.broken ≡ None → IsTrue (is_some core.world.broken)
+      → Rose (disks.fault_count start.disk) (disks.fault_count core.disk)
 
 -- so it is of the state
 abbrev pub IsKeptIn : {D : Type 0} → DiskOf D → State D → Type 0

@@ -22,4 +22,5 @@ wishes_of pages (Collect workers) = map one_call (collection pages workers)
 -- what the lines of one lane ask for
 abbrev pub lines_of_lane : ℕ → ℕ → List LaneLine → List (List Wish)
 lines_of_lane pages lane [] = []
-lines_of_lane pages lane (s ∷ said) = cond (s.lane == lane) (wishes_of pages s.line ∷ lines_of_lane pages lane said) (lines_of_lane pages lane said)
+lines_of_lane pages lane (s ∷ said) = cond (s.lane == lane) (wishes_of pages s.line
+    ∷ lines_of_lane pages lane said) (lines_of_lane pages lane said)

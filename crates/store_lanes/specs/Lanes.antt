@@ -87,7 +87,8 @@ module _ {D : Type 0} (disks : DiskOf D) (first : Seen D) where
     pub goes : (said : List LaneLine) → SayInLanes all said → LaneStands left lane seat said
 
   -- the line is one of the lane, and it was run; or there was no room for one of its calls
-  pub record LineMade (lane : ℕ) (bytes : List ℕ) (old new : AtDesk D) (result : Result (Unit {0}) Memory) : Type 0 where
+  pub record LineMade (lane : ℕ) (bytes : List ℕ) (old new : AtDesk D)
+      (result : Result (Unit {0}) Memory) : Type 0 where
     pub line : Line
     pub only : (s : LaneLine) → SaysInLane bytes s.lane s.line → (s.lane ≡ lane) × (s.line ≡ line)
     pub served : LineServed lane line old new result
@@ -113,4 +114,5 @@ module _ {D : Type 0} (disks : DiskOf D) (first : Seen D) where
   -- so it is of each of some lanes, whatever the lines say
   pub record LanesRan (all : List (List ℕ)) (low high : ℕ) (whole : Bool) (seat : AtDesk D) : Type 0 where
     pub owns : SeatOwns first.world low high seat
-    pub each : (lane : ℕ) → low ≤ lane → lane ≤ high → (said : List LaneLine) → SayInLanes all said → Went lane whole seat said
+    pub each : (lane : ℕ) → low ≤ lane → lane ≤ high → (said : List LaneLine) → SayInLanes all said
+        → Went lane whole seat said

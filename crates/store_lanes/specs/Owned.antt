@@ -14,12 +14,14 @@ has p (x ∷ xs) = (x == p) || has p xs
 -- the events of a lane at these places, of those that stand from a place on
 abbrev pub part : List ℕ → ℕ → ℕ → List WorldEvent → List WorldEvent
 part own lane at [] = []
-part own lane at (m ∷ ms) = cond (has at own && (m.event.entry.lane == lane)) (m ∷ part own lane (at + 1) ms) (part own lane (at + 1) ms)
+part own lane at (m ∷ ms) = cond (has at own && (m.event.entry.lane == lane)) (m
+    ∷ part own lane (at + 1) ms) (part own lane (at + 1) ms)
 
 -- what a seat has as its own has been seen, and is of the lanes from the first to the last
 pub record OwnsLanes (w : World) (first last : ℕ) (own : List ℕ) (events : List Event) : Type 0 where
   pub below : (p : ℕ) → has p own ≡ true → p < length events
-  pub lanes : (p : ℕ) (m : WorldEvent) → has p own ≡ true → slice_get (world_events w events) p ≡ Some m → (first ≤ m.event.entry.lane) × (m.event.entry.lane ≤ last)
+  pub lanes : (p : ℕ) (m : WorldEvent) → has p own ≡ true → slice_get (world_events w events) p ≡ Some m
+      → (first ≤ m.event.entry.lane) × (m.event.entry.lane ≤ last)
 
 -- so it is of a seat
 abbrev pub SeatOwns : {D : Type 0} → World → ℕ → ℕ → AtDesk D → Type 0

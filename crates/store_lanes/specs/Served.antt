@@ -16,7 +16,8 @@ use Rattle.store_lanes.specs.declared.collect.OnPage.TheVariants as on_page
 abbrev pub ServesFront : List Wish → List WorldEvent → Type 0
 ServesFront wishes [] = Unit {0}
 ServesFront [] (m ∷ ms) = ⊥
-ServesFront (wish ∷ wishes) (m ∷ ms) = Grants wish m.event.entry.call × MatchBool (is_refused m.event.entry.reply) (ms ≡ []) (ServesFront wishes ms)
+ServesFront (wish ∷ wishes) (m ∷ ms) = Grants wish m.event.entry.call
+    × MatchBool (is_refused m.event.entry.reply) (ms ≡ []) (ServesFront wishes ms)
 
 -- they are all of them, unless there was no room for one
 abbrev pub ServesBy : List Wish → List WorldEvent → Result (Unit {0}) Memory → Type 0
@@ -26,7 +27,8 @@ ServesBy wishes ms (Err memory) = ServesFront wishes ms
 -- a lane has begun the next of its lines, or it hasn't
 abbrev pub Begins : ℕ → ℕ → List LaneLine → List WorldEvent → Type 0
 Begins pages lane [] begun = begun ≡ []
-Begins pages lane (s ∷ future) begun = (begun ≡ []) ⊎ ((s.lane ≡ lane) × ServesFront (wishes_of pages s.line) begun × IsOwnLine begun)
+Begins pages lane (s ∷ future) begun = (begun ≡ [])
+    ⊎ ((s.lane ≡ lane) × ServesFront (wishes_of pages s.line) begun × IsOwnLine begun)
 
 -- the events of a lane follow its lines that are past, and after them perhaps a part of the next
 pub record FollowsTo (pages lane : ℕ) (past future : List LaneLine) (ms : List WorldEvent) : Type 0 where
@@ -47,13 +49,15 @@ call_on on_page.Sweep page = Sweep page
 abbrev pub Passes : List Call → List Call → List WorldEvent → Type 0
 Passes calls left [] = calls ≡ left
 Passes [] left (m ∷ ms) = ⊥
-Passes (call ∷ calls) left (m ∷ ms) = (m.event.entry.call ≡ call) × (is_refused m.event.entry.reply ≡ false) × Passes calls left ms
+Passes (call ∷ calls) left (m ∷ ms) = (m.event.entry.call ≡ call) × (is_refused m.event.entry.reply ≡ false)
+    × Passes calls left ms
 
 -- the events are those of the first calls, and the last of them was refused
 abbrev pub Ends : List Call → List WorldEvent → Type 0
 Ends [] ms = ⊥
 Ends (call ∷ calls) [] = ⊥
-Ends (call ∷ calls) (m ∷ ms) = (m.event.entry.call ≡ call) × MatchBool (is_refused m.event.entry.reply) (ms ≡ []) (Ends calls ms)
+Ends (call ∷ calls) (m ∷ ms) = (m.event.entry.call ≡ call)
+    × MatchBool (is_refused m.event.entry.reply) (ms ≡ []) (Ends calls ms)
 
 -- all calls were made; or one was refused; or there was no room for one
 abbrev pub Outcome : List Call → List WorldEvent → Result Bool Memory → Type 0

@@ -19,7 +19,8 @@ use Rattle.store_machine.specs.Faults.{NoneFailed}
 
 -- ---- how a store goes on
 
--- What a reopening finds on a disk that doesn't tell what it holds: some world, just opened, or none, and then all is as before.
+-- What a reopening finds on a disk that doesn't tell what it holds: some world, just opened, or none, and then all is
+-- as before.
 abbrev pub FindsAnew : World → Reply → World → Type 0
 FindsAnew w (Reopened commits) found = IsOpenedAnew w commits found
 FindsAnew w (Refused why) found = found ≡ w
@@ -29,7 +30,8 @@ pub record ReopensAnew (w : World) (e : Event) (found : World) : Type 0 where
   pub call : e.entry.call ≡ Reopen
   pub finds : FindsAnew w e.entry.reply found
 
--- An event of a run, in the world before it, and the world after it: by the model, but for a reopening over a disk that doesn't tell.
+-- An event of a run, in the world before it, and the world after it: by the model, but for a reopening over a disk
+-- that doesn't tell.
 pub record StepsTo (told : Bool) (w : World) (e : Event) (to : World) : Type 0 where
   pub lane : e.entry.lane ≡ 1
   pub marks : HasPresentMarks w e.entry.call e.note
@@ -61,11 +63,14 @@ pub record StandsForFront (w : World) (history : List Event) (file : List ℕ) :
 pub record Acts {D : Type 0} (disks : DiskOf D) (old new : Seen D) (history : List Event) : Type 0 where
   pub runs : RunsTo (is_some (disks.content old.disk)) old.world history new.world
   pub keeps : KeepsDisk disks old.disk new.disk
-  pub any_moment : IfSome (disks.content old.disk) (λ _. LeavesOnly disks old.disk new.disk (StandsForFront old.world history))
-  pub now : IfSome (disks.content new.disk) (λ _. (file : List ℕ) → disks.may_leave new.disk file → StandsForWorld file new.world)
+  pub any_moment : IfSome (disks.content old.disk)
+      (λ _. LeavesOnly disks old.disk new.disk (StandsForFront old.world history))
+  pub now : IfSome (disks.content new.disk) (λ _. (file : List ℕ) → disks.may_leave new.disk file
+      → StandsForWorld file new.world)
   pub faults : FaultsAscend (disks.fault_count old.disk) (disks.fault_count new.disk) history
   pub calm : NoneFailed history → disks.fault_count new.disk ≡ disks.fault_count old.disk
-  pub cause : old.world.broken ≡ None → IsTrue (is_some new.world.broken) → Rose (disks.fault_count old.disk) (disks.fault_count new.disk)
+  pub cause : old.world.broken ≡ None → IsTrue (is_some new.world.broken)
+      → Rose (disks.fault_count old.disk) (disks.fault_count new.disk)
 
 -- a call of the one caller with its reply, and what the reply doesn't tell
 abbrev pub event_with : Call → Reply → Note → Event

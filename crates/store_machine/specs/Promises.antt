@@ -9,10 +9,12 @@ use Rattle.store_model.specs.Worlds.{World, Event, is_freed, IsReached, IsOutOfR
 use Rattle.store_model.specs.Histories.{after}
 use Rattle.store_machine.specs.Calls.{takes_cut}
 
--- At each moment of the history all that is freed by then, in a reply or as a reopening found, is out of reach of the root and of each open
+-- At each moment of the history all that is freed by then, in a reply or as a reopening found, is out of reach of the
+-- root and of each open
 -- transaction.
 abbrev pub IsSafe : World → List Event → Type 0
-IsSafe w history = (done later : List Event) (name : NameParts) → history ≡ done ++ later → IsTrue (is_freed (after w done) name) → IsOutOfReach (after w done) name
+IsSafe w history = (done later : List Event) (name : NameParts) → history ≡ done ++ later
+    → IsTrue (is_freed (after w done) name) → IsOutOfReach (after w done) name
 
 -- the object is committed and unfreed, and the root doesn't lead to it
 pub record IsUnreached (w : World) (name : NameParts) : Type 0 where
@@ -20,7 +22,8 @@ pub record IsUnreached (w : World) (name : NameParts) : Type 0 where
   pub unfreed : IsTrue (not (is_freed w name))
   pub unreached : ¬ IsReached w name
 
--- a part of a history from the reply that opened a cut up to the one that its end is done, with no reply between that takes the cut away
+-- a part of a history from the reply that opened a cut up to the one that its end is done, with no reply between that
+-- takes the cut away
 pub record IsWholeCut (events : List Event) : Type 0 where
   pub opening : Event
   pub during : List Event
@@ -33,5 +36,6 @@ pub record IsWholeCut (events : List Event) : Type 0 where
 
 -- All that was out of reach as a cut opened is freed as the cut ends.
 abbrev pub IsCollected : World → List Event → Type 0
-IsCollected w history = (before cut later : List Event) (name : NameParts) → history ≡ before ++ (cut ++ later) → IsWholeCut cut
+IsCollected w history = (before cut later : List Event) (name : NameParts) → history ≡ before ++ (cut ++ later)
+    → IsWholeCut cut
     → IsUnreached (after w before) name → IsTrue (is_freed (after w (before ++ cut)) name)

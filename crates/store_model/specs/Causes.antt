@@ -38,7 +38,8 @@ abbrev pub busy_to_read : World → ℕ → ℕ → Option Refusal
 busy_to_read w number page = option_map (λ h. Busy h) (holder w number (λ t. has_page t.pages_written page))
 
 abbrev pub busy_to_write : World → ℕ → ℕ → Option Refusal
-busy_to_write w number page = option_map (λ h. Busy h) (holder w number (λ t. has_page t.pages_read page || has_page t.pages_written page))
+busy_to_write w number page = option_map (λ h. Busy h) (holder w number (λ t. has_page t.pages_read page
+    || has_page t.pages_written page))
 
 -- what a field of an object has in a transaction's view
 abbrev pub field_seen : World → ℕ → NameParts → ℕ → Option NameParts
@@ -99,7 +100,8 @@ knows_too_many w number = when (nat_le MOST_KNOWN (length (transaction w number)
 abbrev pub knows_too_many_for : World → ℕ → Option NameParts → Option Refusal
 knows_too_many_for w number None = None
 knows_too_many_for w number (Some target) =
-    when (nat_le MOST_KNOWN (length (transaction w number).known) && not (has_name (transaction w number).known target)) KnowsTooMany
+    when (nat_le MOST_KNOWN (length (transaction w number).known)
+    && not (has_name (transaction w number).known target)) KnowsTooMany
 
 abbrev pub page_full : World → ℕ → ℕ → Option Refusal
 page_full w number page = when (is_none (free_slot w number page)) (PageFull page)
@@ -159,7 +161,8 @@ wrong_marks cut (Some number) = other_cut cut number
 
 -- the causes of a call, in their order
 abbrev pub causes : World → Call → Note → List (Option Refusal)
-causes w (Begin t) note = broken w ∷ when (is_some (find_transaction w t)) AlreadyOpen ∷ when (nat_le MOST_OPEN (length w.transactions)) TooMany ∷ []
+causes w (Begin t) note = broken w ∷ when (is_some (find_transaction w t)) AlreadyOpen
+    ∷ when (nat_le MOST_OPEN (length w.transactions)) TooMany ∷ []
 causes w (Get t name field) note =
     broken w ∷ not_open w t ∷ stranger w t name ∷ bad_field w name field ∷ busy_to_read w t name.page
     ∷ knows_too_many_for w t (field_seen w t name field) ∷ []
@@ -170,15 +173,20 @@ causes w (Set t name field target) note =
 causes w (Put t name value) note =
     broken w ∷ not_open w t ∷ stranger w t name ∷ busy_to_write w t name.page ∷ too_wide w t name.page ∷ []
 causes w (New t page) note =
-    broken w ∷ not_open w t ∷ no_page w page ∷ busy_to_write w t page ∷ too_wide w t page ∷ knows_too_many w t ∷ page_full w t page ∷ []
+    broken w ∷ not_open w t ∷ no_page w page ∷ busy_to_write w t page ∷ too_wide w t page ∷ knows_too_many w t
+    ∷ page_full w t page ∷ []
 causes w (Commit t) note = broken w ∷ not_open w t ∷ spent w.commits ∷ []
 causes w (Abort t) note = broken w ∷ not_open w t ∷ []
 causes w OpenCut note = broken w ∷ cut_there w ∷ spent w.last_cut ∷ []
-causes w (Copy page) note = broken w ∷ on_cut w (λ cut. wrong_phase cut Copying ∷ no_page w page ∷ already_copied cut page ∷ [])
-causes w (HandIn page number seen) note = broken w ∷ on_cut w (λ cut. wrong_phase cut Copying ∷ other_cut cut number ∷ already_copied cut page ∷ [])
+causes w (Copy page) note = broken w
+    ∷ on_cut w (λ cut. wrong_phase cut Copying ∷ no_page w page ∷ already_copied cut page ∷ [])
+causes w (HandIn page number seen) note = broken w
+    ∷ on_cut w (λ cut. wrong_phase cut Copying ∷ other_cut cut number ∷ already_copied cut page ∷ [])
 causes w Close note = broken w ∷ on_cut w (λ cut. wrong_phase cut Copying ∷ uncopied w cut ∷ [])
-causes w (Mark workers) note = broken w ∷ on_cut w (λ cut. wrong_phase cut Closed ∷ wrong_marks cut (marks_of note) ∷ [])
-causes w (Sweep page) note = broken w ∷ on_cut w (λ cut. wrong_phase cut Sweeping ∷ no_page w page ∷ already_swept cut page ∷ [])
+causes w (Mark workers) note = broken w
+    ∷ on_cut w (λ cut. wrong_phase cut Closed ∷ wrong_marks cut (marks_of note) ∷ [])
+causes w (Sweep page) note = broken w
+    ∷ on_cut w (λ cut. wrong_phase cut Sweeping ∷ no_page w page ∷ already_swept cut page ∷ [])
 causes w EndCut note = broken w ∷ on_cut w (λ cut. wrong_phase cut Sweeping ∷ unswept w cut ∷ [])
 causes w DropCut note = broken w ∷ on_cut w (λ cut. [])
 causes w Reopen note = []

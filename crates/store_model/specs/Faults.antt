@@ -19,7 +19,8 @@ abbrev pub Ascend : ℕ → List ℕ → ℕ → Type 0
 Ascend from [] to = from ≤ to
 Ascend from (count ∷ counts) to = (from < count) × Ascend count counts to
 
--- from the count at the start the notes of the replies DiskFault rise to the count at the end, as far as a count can rise
+-- from the count at the start the notes of the replies DiskFault rise to the count at the end, as far as a count can
+-- rise
 pub record FaultsAscend (from to : ℕ) (events : List Event) : Type 0 where
   pub later : from ≤ to
   pub ascend : to < last_count → Ascend from (counts_noted events) to

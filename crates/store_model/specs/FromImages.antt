@@ -34,7 +34,8 @@ is_name_in_use images name = is_in_use_under (slot_in images name.page name.slot
 
 -- the name is one of those that were ever given: at each place generations 1 to the stored one
 abbrev pub was_given : List (List SlotParts) → NameParts → Bool
-was_given images name = nat_lt 0 name.generation && nat_le name.generation (slot_in images name.page name.slot).generation
+was_given images name = nat_lt 0 name.generation
+    && nat_le name.generation (slot_in images name.page name.slot).generation
 
 -- ---- the world that is opened
 
@@ -87,7 +88,8 @@ pub record IsSlot (fields : ℕ) (s : SlotParts) : Type 0 where
 -- each image has as many slots as its page
 pub record AreImagesOf (slots_on fields_on : ℕ → ℕ) (images : List (List SlotParts)) : Type 0 where
   pub count : (page : ℕ) → page < length images → length (slice_index_or images page []) ≡ slots_on page
-  pub slots : (page slot : ℕ) → page < length images → slot < slots_on page → IsSlot (fields_on page) (slot_in images page slot)
+  pub slots : (page slot : ℕ) → page < length images → slot < slots_on page
+      → IsSlot (fields_on page) (slot_in images page slot)
 
 -- so it is in the store that opens to them
 abbrev pub AreImages : List (List SlotParts) → Type 0

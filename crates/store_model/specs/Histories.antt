@@ -24,7 +24,8 @@ IsLegal w (e ∷ events) = Allows w e × IsLegal (next w e) events
 -- the calls of a collection, over a store of so many pages
 abbrev pub collection : ℕ → ℕ → List Call
 collection pages workers =
-    (OpenCut ∷ map (λ page. Copy page) (below pages)) ++ (Close ∷ Mark workers ∷ map (λ page. Sweep page) (below pages)) ++ EndCut ∷ []
+    (OpenCut ∷ map (λ page. Copy page) (below pages)) ++ (Close ∷ Mark workers
+    ∷ map (λ page. Sweep page) (below pages)) ++ EndCut ∷ []
 
 abbrev pub is_refused : Reply → Bool
 is_refused (Refused why) = true
@@ -34,13 +35,15 @@ is_refused _ = false
 abbrev pub Makes : List Call → List Event → List Event → Type 0
 Makes [] events rest = events ≡ rest
 Makes (call ∷ calls) [] rest = ⊥
-Makes (call ∷ calls) (e ∷ events) rest = (e.entry.call ≡ call) × MatchBool (is_refused e.entry.reply) (events ≡ rest) (Makes calls events rest)
+Makes (call ∷ calls) (e ∷ events) rest = (e.entry.call ≡ call)
+    × MatchBool (is_refused e.entry.reply) (events ≡ rest) (Makes calls events rest)
 
 -- the events are the first ones of such a line's, all of them perhaps
 abbrev pub Starts : List Call → List Event → Type 0
 Starts calls [] = Unit {0}
 Starts [] (e ∷ events) = ⊥
-Starts (call ∷ calls) (e ∷ events) = (e.entry.call ≡ call) × MatchBool (is_refused e.entry.reply) (events ≡ []) (Starts calls events)
+Starts (call ∷ calls) (e ∷ events) = (e.entry.call ≡ call)
+    × MatchBool (is_refused e.entry.reply) (events ≡ []) (Starts calls events)
 
 -- the events are those of these lists of calls, one for each line, in order
 abbrev pub Follows : List (List Call) → List Event → Type 0

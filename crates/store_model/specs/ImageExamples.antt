@@ -11,7 +11,8 @@ use Rattle.store_model.specs.Examples.{name_of, root, said}
 
 -- a free slot in which there were so many objects, and one in use
 abbrev pub free_slot : ℕ → SlotParts
-free_slot generation = record { in_use = false; generation = generation; number = 0; refs = replicate object_fields None }
+free_slot generation =
+    record { in_use = false; generation = generation; number = 0; refs = replicate object_fields None }
 
 abbrev pub used_slot : ℕ → ℕ → List (Option NameParts) → SlotParts
 used_slot generation number refs = record { in_use = true; generation = generation; number = number; refs = refs }
@@ -28,7 +29,8 @@ abbrev pub no_refs : List (Option NameParts)
 no_refs = replicate object_fields None
 
 abbrev pub small_images : List (List SlotParts)
-small_images = page_of (used_slot 1 5 to_second ∷ []) ∷ page_of (used_slot 2 7 no_refs ∷ free_slot 1 ∷ used_slot 1 9 no_refs ∷ []) ∷ []
+small_images = page_of (used_slot 1 5 to_second ∷ [])
+    ∷ page_of (used_slot 2 7 no_refs ∷ free_slot 1 ∷ used_slot 1 9 no_refs ∷ []) ∷ []
 
 abbrev pub object : NameParts → ℕ → List (Option NameParts) → ObjectParts
 object name number refs = record { name = name; number = number; refs = refs }
@@ -39,7 +41,8 @@ blank name = fresh_object object_fields name
 abbrev pub small_world : World
 small_world = record {
   pages = 2;
-  graph = object root 5 to_second ∷ blank (name_of 1 0 1) ∷ object (name_of 1 0 2) 7 no_refs ∷ blank (name_of 1 1 1) ∷ object (name_of 1 2 1) 9 no_refs ∷ [];
+  graph = object root 5 to_second ∷ blank (name_of 1 0 1) ∷ object (name_of 1 0 2) 7 no_refs ∷ blank (name_of 1 1 1)
+      ∷ object (name_of 1 2 1) 9 no_refs ∷ [];
   commits = 3;
   freed = name_of 1 0 1 ∷ name_of 1 1 1 ∷ [];
   last_cut = 0;

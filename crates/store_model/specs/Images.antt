@@ -16,7 +16,12 @@ no_slot = record { in_use = false; generation = 0; number = 0; refs = [] }
 
 -- the object in a slot
 abbrev pub object_in : ℕ → ℕ → SlotParts → ObjectParts
-object_in page slot s = record { name = record { page = page; slot = slot; generation = s.generation }; number = s.number; refs = s.refs }
+object_in page slot s = record {
+  name =
+      record { page = page; slot = slot; generation = s.generation };
+  number = s.number;
+  refs = s.refs;
+}
 
 -- the same, where the slot is in use
 abbrev pub objects_in : ℕ → ℕ → SlotParts → List ObjectParts
@@ -39,7 +44,8 @@ unfreed_at graph freed page slot = filter (is_unfreed freed) (objects_at graph p
 -- a slot with these unfreed objects, of which there is one at most, and so many names in all
 abbrev pub slot_with : ℕ → List ObjectParts → ℕ → SlotParts
 slot_with fields [] names = record { in_use = false; generation = names; number = 0; refs = replicate fields None }
-slot_with fields (o ∷ os) names = record { in_use = true; generation = o.name.generation; number = o.number; refs = o.refs }
+slot_with fields (o ∷ os) names =
+    record { in_use = true; generation = o.name.generation; number = o.number; refs = o.refs }
 
 -- a slot of a page as a graph has it, of whose names these are freed
 abbrev pub shown_slot : ℕ → List ObjectParts → List NameParts → ℕ → ℕ → SlotParts

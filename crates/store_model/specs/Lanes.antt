@@ -33,7 +33,8 @@ pub data Wish : Type 0 where
 -- a whole collection of a lane
 abbrev pub lane_collection : ℕ → ℕ → List Wish
 lane_collection pages workers =
-    (one_call OpenCut ∷ map copy_of (below pages)) ++ (one_call Close ∷ one_call (Mark workers) ∷ map (λ page. one_call (Sweep page)) (below pages)) ++ one_call EndCut ∷ []
+    (one_call OpenCut ∷ map copy_of (below pages)) ++ (one_call Close ∷ one_call (Mark workers)
+    ∷ map (λ page. one_call (Sweep page)) (below pages)) ++ one_call EndCut ∷ []
 
 -- the call does what was asked for
 abbrev pub Grants : Wish → Call → Type 0
@@ -45,7 +46,8 @@ Grants (copy_of page) _ = ⊥
 abbrev pub Serves : List Wish → List WorldEvent → List WorldEvent → Type 0
 Serves [] part rest = part ≡ rest
 Serves (wish ∷ wishes) [] rest = ⊥
-Serves (wish ∷ wishes) (m ∷ ms) rest = Grants wish m.event.entry.call × MatchBool (is_refused m.event.entry.reply) (ms ≡ rest) (Serves wishes ms rest)
+Serves (wish ∷ wishes) (m ∷ ms) rest = Grants wish m.event.entry.call
+    × MatchBool (is_refused m.event.entry.reply) (ms ≡ rest) (Serves wishes ms rest)
 
 -- the cut that a reply opened is no later than this one
 abbrev pub IsNoLater : Reply → ℕ → Type 0
@@ -54,12 +56,14 @@ IsNoLater _ number = Unit {0}
 
 -- a copy that is handed in is of no earlier cut than those that its line opened, and of none to come
 abbrev pub HandsInOwn : List WorldEvent → WorldEvent → Call → Type 0
-HandsInOwn line m (HandIn page number seen) = AllByRecursion (λ before. IsNoLater before.event.entry.reply number) line × (number ≤ m.world.last_cut)
+HandsInOwn line m (HandIn page number seen) = AllByRecursion
+    (λ before. IsNoLater before.event.entry.reply number) line × (number ≤ m.world.last_cut)
 HandsInOwn line m _ = Unit {0}
 
 -- the cut of this number was there as the line closed it
 abbrev pub ClosedCut : List WorldEvent → ℕ → Type 0
-ClosedCut line number = (c : WorldEvent) × In c line × (c.event.entry.call ≡ Close) × IsSomeAnd c.world.cut (λ cut. cut.number ≡ number)
+ClosedCut line number = (c : WorldEvent) × In c line × (c.event.entry.call ≡ Close)
+    × IsSomeAnd c.world.cut (λ cut. cut.number ≡ number)
 
 -- marks are none, or those of the cut that the line closed
 abbrev pub MarksOwn : List WorldEvent → WorldEvent → Call → Type 0
@@ -74,4 +78,5 @@ IsOwnLine line = AllByRecursion (λ m. HandsInOwn line m m.event.entry.call × M
 abbrev pub FollowsLane : List (List Wish) → List WorldEvent → Type 0
 FollowsLane [] ms = ms ≡ []
 FollowsLane (wishes ∷ lines) ms =
-    (line : List WorldEvent) × (rest : List WorldEvent) × (ms ≡ line ++ rest) × Serves wishes line [] × IsOwnLine line × FollowsLane lines rest
+    (line : List WorldEvent) × (rest : List WorldEvent) × (ms ≡ line ++ rest) × Serves wishes line [] × IsOwnLine line
+    × FollowsLane lines rest

@@ -23,7 +23,8 @@ generations_at graph page slot = map (λ o. o.name.generation) (objects_at graph
 
 -- at each place the names of the graph are those of generations 1 to some number
 abbrev pub CountsUp : List ObjectParts → Type 0
-CountsUp graph = (page slot : ℕ) → generations_at graph page slot ≡ map suc (below (length (objects_at graph page slot)))
+CountsUp graph = (page slot : ℕ)
+    → generations_at graph page slot ≡ map suc (below (length (objects_at graph page slot)))
 
 -- an unfreed name is the last of its place
 abbrev pub IsLastOfPlace : List ObjectParts → ObjectParts → Type 0
@@ -34,7 +35,8 @@ OnlyLastUnfreed graph freed = AllByRecursion (IsLastOfPlace graph) (filter (is_u
 
 -- what is reached refers to nothing but names of the graph
 abbrev pub RefersWithin : List ObjectParts → List NameParts → Type 0
-RefersWithin graph starts = (name target : NameParts) → IsReachedFrom graph starts name → IsTrue (refers graph name target) → IsTrue (has_object graph target)
+RefersWithin graph starts = (name target : NameParts) → IsReachedFrom graph starts name
+    → IsTrue (refers graph name target) → IsTrue (has_object graph target)
 
 -- each object has as many references as an object of its page
 abbrev pub HaveFields : (ℕ → ℕ) → List ObjectParts → Type 0
@@ -51,7 +53,8 @@ pub record HasProperNames (w : World) : Type 0 where
 -- a write is to a known name on a page written, and its target is none or known
 abbrev pub IsKnownWrite : Transaction → Write → Type 0
 IsKnownWrite t (link name field None) = IsTrue (has_name t.known name && has_page t.pages_written name.page)
-IsKnownWrite t (link name field (Some target)) = IsTrue ((has_name t.known name && has_page t.pages_written name.page) && has_name t.known target)
+IsKnownWrite t (link name field (Some target)) = IsTrue ((has_name t.known name && has_page t.pages_written name.page)
+    && has_name t.known target)
 IsKnownWrite t (assign name value) = IsTrue (has_name t.known name && has_page t.pages_written name.page)
 
 -- an own object stands on a page that its transaction wrote, at a place with no unfreed name, under the next name there
@@ -73,7 +76,8 @@ IsCoveredPath graph t first (next ∷ rest) last =
 abbrev pub IsCovered : List ObjectParts → Transaction → NameParts → Type 0
 IsCovered graph t name =
     IsTrue (has_name t.own name)
-    ⊎ ((start : NameParts) × (rest : List NameParts) × IsTrue (has_name (starts_of t) start) × IsCoveredPath graph t start rest name)
+    ⊎ ((start : NameParts) × (rest : List NameParts) × IsTrue (has_name (starts_of t) start)
+    × IsCoveredPath graph t start rest name)
 
 -- the facts of an open transaction by itself
 pub record IsLawfulTransaction (graph : List ObjectParts) (freed : List NameParts) (t : Transaction) : Type 0 where
@@ -84,7 +88,8 @@ pub record IsLawfulTransaction (graph : List ObjectParts) (freed : List NamePart
 
 -- no page is written by the one and read or written by the other
 abbrev pub IsApart : Transaction → Transaction → Type 0
-IsApart t u = (page : ℕ) → IsTrue (has_page u.pages_read page || has_page u.pages_written page) → has_page t.pages_written page ≡ false
+IsApart t u = (page : ℕ) → IsTrue (has_page u.pages_read page || has_page u.pages_written page)
+    → has_page t.pages_written page ≡ false
 
 abbrev pub AreApart : List Transaction → Type 0
 AreApart ts = AllByRecursion (λ t. AllByRecursion (λ u. u.number ≢ t.number → IsApart t u) ts) ts
@@ -92,7 +97,8 @@ AreApart ts = AllByRecursion (λ t. AllByRecursion (λ u. u.number ≢ t.number 
 -- ---- all of it
 
 -- the graph and the open transactions are in order
-pub record AreInOrder (pages : ℕ) (slots : ℕ → ℕ) (graph : List ObjectParts) (freed starts : List NameParts) (ts : List Transaction) : Type 0 where
+pub record AreInOrder (pages : ℕ) (slots : ℕ
+    → ℕ) (graph : List ObjectParts) (freed starts : List NameParts) (ts : List Transaction) : Type 0 where
   pub root : IsTrue (has_object graph root_name && not (has_name freed root_name))
   pub placed : AllByRecursion (λ o. IsPlaced pages slots o.name) graph
   pub own_placed : AllByRecursion (λ t. AllByRecursion (IsPlaced pages slots) t.own) ts
@@ -111,14 +117,16 @@ IsOrderly w = AreInOrder w.pages (slots_of w) w.graph w.freed (starts w) w.trans
 pub record KeepsLost (w : World) (opening : Opening) : Type 0 where
   pub there : (name : NameParts) → IsTrue (is_old opening name) → IsTrue (has_object w.graph name)
   pub out : (name : NameParts) → IsLost opening name → IsOutOfReach w name
-  pub kept : (name target : NameParts) → ¬ IsLost opening name → IsLost opening target → IsTrue (not (has_name w.freed name)) → ¬ IsTrue (refers w.graph name target)
+  pub kept : (name target : NameParts) → ¬ IsLost opening name → IsLost opening target
+      → IsTrue (not (has_name w.freed name)) → ¬ IsTrue (refers w.graph name target)
 
 abbrev pub KeepsLostOf : World → OpenedCut → Type 0
 KeepsLostOf w cut = KeepsLost w cut.opening
 
 -- on each page that is swept all that was lost is freed
 abbrev pub HasFreedSwept : World → OpenedCut → Type 0
-HasFreedSwept w cut = (name : NameParts) → IsLost cut.opening name → IsTrue (has_page cut.swept name.page) → IsTrue (is_freed w name)
+HasFreedSwept w cut = (name : NameParts) → IsLost cut.opening name → IsTrue (has_page cut.swept name.page)
+    → IsTrue (is_freed w name)
 
 -- this cut is swept, and not yet on this page
 pub record IsUnsweptIn (page : ℕ) (cut : OpenedCut) : Type 0 where

@@ -15,7 +15,8 @@ use Rattle.store_model.specs.Causes.{first_refusal, field_seen, number_seen, new
 
 -- the names that go where these slots of a page are freed
 abbrev pub names_in : World → ℕ → ℕ → List NameParts
-names_in w page slots = map (λ o. o.name) (filter (λ o. (o.name.page == page) && has_slot slots o.name.slot) (unfreed w))
+names_in w page slots = map (λ o. o.name) (filter (λ o. (o.name.page == page)
+    && has_slot slots o.name.slot) (unfreed w))
 
 -- the name was there as the cut opened, and nothing leads to it now
 pub record IsGarbage (w : World) (opening : Opening) (name : NameParts) : Type 0 where
@@ -24,9 +25,11 @@ pub record IsGarbage (w : World) (opening : Opening) (name : NameParts) : Type 0
 
 -- a sweep of the page may free this set of slots
 pub record MayFree (w : World) (opening : Opening) (page slots : ℕ) : Type 0 where
-  pub one_each : IsTrue (list_all (λ slot. length (filter (is_unfreed w.freed) (objects_at w.graph page slot)) == 1) (slots_in slots))
+  pub one_each : IsTrue (list_all (λ slot. length (filter (is_unfreed w.freed) (objects_at w.graph page slot)) == 1)
+      (slots_in slots))
   pub safe : AllByRecursion (IsGarbage w opening) (names_in w page slots)
-  pub complete : (name : NameParts) → IsLost opening name → name.page ≡ page → IsTrue (not (is_freed w name)) → IsTrue (has_name (names_in w page slots) name)
+  pub complete : (name : NameParts) → IsLost opening name → name.page ≡ page → IsTrue (not (is_freed w name))
+      → IsTrue (has_name (names_in w page slots) name)
 
 -- with no cut nothing may be freed
 abbrev pub MayFreeNow : World → ℕ → ℕ → Type 0

@@ -27,7 +27,10 @@ with_target (Some name) names = with_name name names
 
 -- the open transaction of a number is changed
 abbrev pub with_transaction : World → ℕ → (Transaction → Transaction) → World
-with_transaction w number change = record w { transactions = map (λ t. if t.number == number then change t else t) w.transactions }
+with_transaction w number change = record w {
+  transactions = map (λ t. if t.number == number then change t
+      else t) w.transactions;
+}
 
 abbrev pub reads_page : ℕ → Transaction → Transaction
 reads_page page t = record t { pages_read = with_page page t.pages_read }
@@ -36,7 +39,12 @@ abbrev pub writes : Write → ℕ → Transaction → Transaction
 writes write page t = record t { writes = write ∷ t.writes; pages_written = with_page page t.pages_written }
 
 abbrev pub makes : NameParts → Transaction → Transaction
-makes name t = record t { own = t.own ++ name ∷ []; known = with_name name t.known; pages_written = with_page name.page t.pages_written }
+makes name t = record t {
+  own = t.own ++ name
+      ∷ [];
+  known = with_name name t.known;
+  pages_written = with_page name.page t.pages_written;
+}
 
 -- the open transactions without one
 abbrev pub without : World → ℕ → List Transaction
@@ -44,7 +52,12 @@ without w number = filter (λ t. not (t.number == number)) w.transactions
 
 -- the transaction's own objects and writes are in the graph
 abbrev pub committed : World → ℕ → World
-committed w number = record w { graph = view w (transaction w number); commits = w.commits + 1; transactions = without w number }
+committed w number = record w {
+  graph = view w
+      (transaction w number);
+  commits = w.commits + 1;
+  transactions = without w number;
+}
 
 -- a cut opens
 abbrev pub opening_of : World → Opening
@@ -105,7 +118,8 @@ with_new w t (Some name) = with_transaction w t (makes name)
 abbrev pub after_answer : World → Call → Note → Reply → World
 after_answer w (Begin t) note reply = record w { transactions = fresh_transaction t ∷ w.transactions }
 after_answer w (Get t name field) note reply =
-    with_transaction w t (λ u. reads_page name.page (record u { known = with_target (field_seen w t name field) u.known }))
+    with_transaction w t (λ u. reads_page name.page
+    (record u { known = with_target (field_seen w t name field) u.known }))
 after_answer w (Number t name) note reply = with_transaction w t (reads_page name.page)
 after_answer w (Set t name field target) note reply = with_transaction w t (writes (link name field target) name.page)
 after_answer w (Put t name value) note reply = with_transaction w t (writes (assign name value) name.page)
@@ -114,7 +128,8 @@ after_answer w (Commit t) note reply = committed w t
 after_answer w (Abort t) note reply = record w { transactions = without w t }
 after_answer w OpenCut note reply = opened w
 after_answer w (Copy page) note reply = with_cut w (λ cut. record cut { copied = with_page page cut.copied })
-after_answer w (HandIn page number seen) note reply = with_cut w (λ cut. record cut { copied = with_page page cut.copied })
+after_answer w (HandIn page number seen) note reply = with_cut w
+    (λ cut. record cut { copied = with_page page cut.copied })
 after_answer w Close note reply = with_cut w (λ cut. record cut { phase = Closed })
 after_answer w (Mark workers) note reply = with_cut w (λ cut. record cut { phase = Sweeping })
 after_answer w (Sweep page) note reply = swept w page (slots_freed reply)

@@ -152,7 +152,8 @@ abbrev pub call_words : Call → List Word
 call_words (Begin txn) = label (codes "begin") ∷ short txn ∷ []
 call_words (Get txn name field) = label (codes "get") ∷ short txn ∷ named name ∷ short field ∷ []
 call_words (Number txn name) = label (codes "num") ∷ short txn ∷ named name ∷ []
-call_words (Set txn name field (Some target)) = label (codes "set") ∷ short txn ∷ named name ∷ short field ∷ named target ∷ []
+call_words (Set txn name field (Some target)) = label (codes "set") ∷ short txn ∷ named name ∷ short field
+    ∷ named target ∷ []
 call_words (Set txn name field None) = label (codes "nil") ∷ short txn ∷ named name ∷ short field ∷ []
 call_words (Put txn name value) = label (codes "put") ∷ short txn ∷ named name ∷ long value ∷ []
 call_words (New txn page) = label (codes "new") ∷ short txn ∷ short page ∷ []

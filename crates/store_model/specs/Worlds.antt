@@ -89,7 +89,15 @@ new_object w name = fresh_object (fields_of w name.page) name
 
 -- a transaction as it begins
 abbrev pub fresh_transaction : ℕ → Transaction
-fresh_transaction number = record { number = number; known = root_name ∷ []; own = []; writes = []; pages_read = []; pages_written = [] }
+fresh_transaction number = record {
+  number = number;
+  known = root_name
+      ∷ [];
+  own = [];
+  writes = [];
+  pages_read = [];
+  pages_written = [];
+}
 
 -- the world of a fresh store
 abbrev pub fresh_world : ℕ → World

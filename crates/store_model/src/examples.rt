@@ -32,49 +32,57 @@ pub fn a_lock_conflict_is_busy()
 /// A page holds twenty objects. A refusal takes no lock.
 pub fn a_page_fills()
     ensures legal { IsLegal (fresh_world 2) worked.a_page_fills }
-    ensures text { history_text worked.a_page_fills ≡ codes "ok\nnew 1.0.1\nnew 1.1.1\nnew 1.2.1\nnew 1.3.1\nnew 1.4.1\nnew 1.5.1\nnew 1.6.1\nnew 1.7.1\nnew 1.8.1\nnew 1.9.1\nnew 1.10.1\nnew 1.11.1\nnew 1.12.1\nnew 1.13.1\nnew 1.14.1\nnew 1.15.1\nnew 1.16.1\nnew 1.17.1\nnew 1.18.1\nnew 1.19.1\npage full 1\ncommit 1\nok\npage full 1\nok\npage full 1\n" }
+    ensures text { history_text worked.a_page_fills
+        ≡ codes "ok\nnew 1.0.1\nnew 1.1.1\nnew 1.2.1\nnew 1.3.1\nnew 1.4.1\nnew 1.5.1\nnew 1.6.1\nnew 1.7.1\nnew 1.8.1\nnew 1.9.1\nnew 1.10.1\nnew 1.11.1\nnew 1.12.1\nnew 1.13.1\nnew 1.14.1\nnew 1.15.1\nnew 1.16.1\nnew 1.17.1\nnew 1.18.1\nnew 1.19.1\npage full 1\ncommit 1\nok\npage full 1\nok\npage full 1\n" }
 {}
 
 /// Each refusal has its cause.
 pub fn refusals_come_in_order()
     ensures legal { IsLegal (fresh_world 2) worked.refusals_come_in_order }
-    ensures text { history_text worked.refusals_come_in_order ≡ codes "ok\nnew 1.0.1\ncommit 1\nok\nstranger\nbad field\nno page\nnot open\n" }
+    ensures text { history_text worked.refusals_come_in_order
+        ≡ codes "ok\nnew 1.0.1\ncommit 1\nok\nstranger\nbad field\nno page\nnot open\n" }
 {}
 
 /// A chain that was unlinked is freed, and its slots are used again.
 pub fn a_chain_unlinked_is_collected()
     ensures legal { IsLegal (fresh_world 2) worked.a_chain_unlinked_is_collected }
-    ensures text { history_text worked.a_chain_unlinked_is_collected ≡ codes "ok\nnew 1.0.1\nnew 1.1.1\nnew 1.2.1\nok\nok\nok\ncommit 1\nok\nok\ncommit 2\ncut 1\nok\nok\nok\nok\nfreed none\nfreed 0 1 2\nok\nok\nnew 1.0.2\n" }
+    ensures text { history_text worked.a_chain_unlinked_is_collected
+        ≡ codes "ok\nnew 1.0.1\nnew 1.1.1\nnew 1.2.1\nok\nok\nok\ncommit 1\nok\nok\ncommit 2\ncut 1\nok\nok\nok\nok\nfreed none\nfreed 0 1 2\nok\nok\nnew 1.0.2\n" }
 {}
 
 /// A pointer that moves from a page that isn't copied to one that is keeps its target.
 pub fn a_moved_pointer_is_seen()
     ensures legal { IsLegal (fresh_world 3) worked.a_moved_pointer_is_seen }
-    ensures text { history_text worked.a_moved_pointer_is_seen ≡ codes "ok\nnew 1.0.1\nnew 2.0.1\nok\nok\ncommit 1\ncut 1\nok\nok\nref 1.0.1\nref 2.0.1\nok\nok\ncommit 2\nok\nok\nok\nok\nfreed none\nfreed none\nfreed none\nok\n" }
+    ensures text { history_text worked.a_moved_pointer_is_seen
+        ≡ codes "ok\nnew 1.0.1\nnew 2.0.1\nok\nok\ncommit 1\ncut 1\nok\nok\nref 1.0.1\nref 2.0.1\nok\nok\ncommit 2\nok\nok\nok\nok\nfreed none\nfreed none\nfreed none\nok\n" }
 {}
 
 /// A page is copied while it has writes that are aborted later.
 pub fn a_dirty_copy_outlives_an_abort()
     ensures legal { IsLegal (fresh_world 2) worked.a_dirty_copy_outlives_an_abort }
-    ensures text { history_text worked.a_dirty_copy_outlives_an_abort ≡ codes "ok\nnew 1.0.1\nok\ncommit 1\ncut 1\nok\nok\nok\nok\nok\nok\nok\nfreed none\nfreed none\nok\n" }
+    ensures text { history_text worked.a_dirty_copy_outlives_an_abort
+        ≡ codes "ok\nnew 1.0.1\nok\ncommit 1\ncut 1\nok\nok\nok\nok\nok\nok\nok\nfreed none\nfreed none\nok\n" }
 {}
 
 /// What is made and unlinked while a cut is open is freed by the next one.
 pub fn what_is_born_in_a_cut_outlives_it()
     ensures legal { IsLegal (fresh_world 2) worked.what_is_born_in_a_cut_outlives_it }
-    ensures text { history_text worked.what_is_born_in_a_cut_outlives_it ≡ codes "cut 1\nok\nnew 1.0.1\nok\ncommit 1\nok\nok\ncommit 2\nok\nok\nok\nok\nfreed none\nfreed none\nok\ncut 2\nok\nok\nok\nok\nfreed none\nfreed 0\nok\n" }
+    ensures text { history_text worked.what_is_born_in_a_cut_outlives_it
+        ≡ codes "cut 1\nok\nnew 1.0.1\nok\ncommit 1\nok\nok\ncommit 2\nok\nok\nok\nok\nfreed none\nfreed none\nok\ncut 2\nok\nok\nok\nok\nfreed none\nfreed 0\nok\n" }
 {}
 
 /// A page is swept under a transaction that wrote it.
 pub fn a_locked_page_is_swept()
     ensures legal { IsLegal (fresh_world 2) worked.a_locked_page_is_swept }
-    ensures text { history_text worked.a_locked_page_is_swept ≡ codes "ok\nnew 1.0.1\ncommit 1\ncut 1\nok\nok\nok\nok\nok\nnew 1.1.1\nfreed none\nfreed 0\nok\nok\nok\nnew 1.0.2\n" }
+    ensures text { history_text worked.a_locked_page_is_swept
+        ≡ codes "ok\nnew 1.0.1\ncommit 1\ncut 1\nok\nok\nok\nok\nok\nnew 1.1.1\nfreed none\nfreed 0\nok\nok\nok\nnew 1.0.2\n" }
 {}
 
 /// The calls on a cut are answered in its phases alone.
 pub fn phases_come_in_order()
     ensures legal { IsLegal (fresh_world 4) worked.phases_come_in_order }
-    ensures text { history_text worked.phases_come_in_order ≡ codes "no cut\ncut 1\ncut there 1\nok\nalready copied 0\nok\nok\nuncopied 3\nok\nok\nwrong phase closed\nok\nunswept 0\nfreed none\nalready swept 0\nok\nno cut\n" }
+    ensures text { history_text worked.phases_come_in_order
+        ≡ codes "no cut\ncut 1\ncut there 1\nok\nalready copied 0\nok\nok\nuncopied 3\nok\nok\nwrong phase closed\nok\nunswept 0\nfreed none\nalready swept 0\nok\nno cut\n" }
 {}
 
 /// A commit that met a disk fault may be undone.
@@ -107,13 +115,15 @@ pub fn a_collection_stops_at_a_refusal()
 /// A sweep that met a disk fault may be done: its slots are used again.
 pub fn a_sweep_in_doubt_may_be_done()
     ensures legal { IsLegal (fresh_world 2) worked.a_sweep_in_doubt_may_be_done }
-    ensures text { history_text worked.a_sweep_in_doubt_may_be_done ≡ codes "ok\nnew 1.0.1\nnew 1.1.1\nnew 1.2.1\nok\nok\nok\ncommit 1\nok\nok\ncommit 2\ncut 1\nok\nok\nok\nok\nfreed none\ndisk fault\nbroken 1\nopen 2\nok\nnew 1.0.2\n" }
+    ensures text { history_text worked.a_sweep_in_doubt_may_be_done
+        ≡ codes "ok\nnew 1.0.1\nnew 1.1.1\nnew 1.2.1\nok\nok\nok\ncommit 1\nok\nok\ncommit 2\ncut 1\nok\nok\nok\nok\nfreed none\ndisk fault\nbroken 1\nopen 2\nok\nnew 1.0.2\n" }
 {}
 
 /// What is unlinked after its referrer was copied is freed by the next cut.
 pub fn what_is_unlinked_after_its_copy_outlives_the_cut()
     ensures legal { IsLegal (fresh_world 2) worked.what_is_unlinked_after_its_copy_outlives_the_cut }
-    ensures text { history_text worked.what_is_unlinked_after_its_copy_outlives_the_cut ≡ codes "ok\nnew 1.0.1\nok\ncommit 1\ncut 1\nok\nok\nok\ncommit 2\nok\nok\nok\nfreed none\nfreed none\nok\ncut 2\nok\nok\nok\nok\nfreed none\nfreed 0\nok\n" }
+    ensures text { history_text worked.what_is_unlinked_after_its_copy_outlives_the_cut
+        ≡ codes "ok\nnew 1.0.1\nok\ncommit 1\ncut 1\nok\nok\nok\ncommit 2\nok\nok\nok\nfreed none\nfreed none\nok\ncut 2\nok\nok\nok\nok\nfreed none\nfreed 0\nok\n" }
 {}
 
 /// A reopening drops the cut, and cuts are counted on.
@@ -125,7 +135,8 @@ pub fn a_reopening_drops_the_cut()
 /// A second disk fault leaves what the first one put in doubt.
 pub fn a_fault_in_a_reopening_keeps_the_doubt()
     ensures legal { IsLegal (fresh_world 2) worked.a_fault_in_a_reopening_keeps_the_doubt }
-    ensures text { history_text worked.a_fault_in_a_reopening_keeps_the_doubt ≡ codes "ok\nok\ndisk fault\ndisk fault\nbroken 2\nopen 1\nok\nnum 5\n" }
+    ensures text { history_text worked.a_fault_in_a_reopening_keeps_the_doubt
+        ≡ codes "ok\nok\ndisk fault\ndisk fault\nbroken 2\nopen 1\nok\nnum 5\n" }
 {}
 
 /// A name that was never committed is given again.

@@ -23,19 +23,22 @@ pub fn opened_world_shows_its_images()
 /// names up to the stored generation; and freed are those that no object in use has, of which
 /// nothing is kept.
 pub fn opened_world_has_what_its_images_have()
-    ensures in_use { (commits : ℕ) (images : List (List SlotParts)) → AreImages images → unfreed (world_of commits images) ≡ objects_in_use images }
+    ensures in_use { (commits : ℕ) (images : List (List SlotParts)) → AreImages images
+        → unfreed (world_of commits images) ≡ objects_in_use images }
     ensures names { (commits : ℕ) (images : List (List SlotParts)) (name : NameParts) → AreImages images
         → has_object (world_of commits images).graph name ≡ was_given images name }
     ensures freed { (commits : ℕ) (images : List (List SlotParts)) (name : NameParts) → AreImages images
         → is_freed (world_of commits images) name ≡ (was_given images name && not (is_name_in_use images name)) }
-    ensures blank { (commits : ℕ) (images : List (List SlotParts)) (o : ObjectParts) → AreImages images → In o (world_of commits images).graph
+    ensures blank { (commits : ℕ) (images : List (List SlotParts)) (o : ObjectParts) → AreImages images
+        → In o (world_of commits images).graph
         → IsTrue (is_freed (world_of commits images) o.name) → o ≡ new_object (world_of commits images) o.name }
 {}
 
 /// The world that images open to is lawful where the root is in use and nothing that is reached
 /// refers to what isn't in use.
 pub fn opened_world_is_lawful()
-    ensures { (commits : ℕ) (images : List (List SlotParts)) → AreImages images → IsTrue (has_root images) → IsWhole images → IsLawful (world_of commits images) }
+    ensures { (commits : ℕ) (images : List (List SlotParts)) → AreImages images → IsTrue (has_root images)
+        → IsWhole images → IsLawful (world_of commits images) }
 {}
 
 /// The images of a fresh store open to the fresh world.
@@ -46,10 +49,12 @@ pub fn a_fresh_store_opens_to_the_fresh_world()
 /// The objects in use are those that the slots name, on pages and in slots of the store, one at most
 /// at each place.
 pub fn objects_in_use_are_those_of_the_slots()
-    ensures named { (images : List (List SlotParts)) (name : NameParts) → has_object (objects_in_use images) name ≡ is_name_in_use images name }
+    ensures named { (images : List (List SlotParts)) (name : NameParts)
+        → has_object (objects_in_use images) name ≡ is_name_in_use images name }
     ensures placed { (images : List (List SlotParts)) (name : NameParts) → AreImages images → IsTrue (is_name_in_use images name)
         → IsPlaced (length images) (slots_of (world_of 0 images)) name }
-    ensures one { (images : List (List SlotParts)) (page slot : ℕ) → objects_at (objects_in_use images) page slot ≡ objects_in page slot (slot_in images page slot) }
+    ensures one { (images : List (List SlotParts)) (page slot : ℕ)
+        → objects_at (objects_in_use images) page slot ≡ objects_in page slot (slot_in images page slot) }
 {}
 
 /// An orderly world shows images that a store may have, with the root in use. They tell its unfreed
@@ -59,7 +64,8 @@ pub fn worlds_show_images_of_a_store()
     ensures images { (w : World) → IsOrderly w → HaveFields (fields_of w) w.graph → AreImages (all_shown w) }
     ensures in_use { (w : World) (o : ObjectParts) → IsOrderly w → In o (unfreed w) ↔ In o (objects_in_use (all_shown w)) }
     ensures names { (w : World) (name : NameParts) → IsOrderly w → has_object w.graph name ≡ was_given (all_shown w) name }
-    ensures freed { (w : World) (name : NameParts) → IsOrderly w → is_freed w name ≡ (was_given (all_shown w) name && not (is_name_in_use (all_shown w) name)) }
+    ensures freed { (w : World) (name : NameParts) → IsOrderly w
+        → is_freed w name ≡ (was_given (all_shown w) name && not (is_name_in_use (all_shown w) name)) }
     ensures root { (w : World) → IsOrderly w → IsTrue (has_root (all_shown w)) }
     ensures whole { (w : World) → IsLawful w → IsWhole (all_shown w) }
 {}

@@ -22,14 +22,16 @@ pub fn is_refused(reply: &Reply) -> bool
 /// allowed after it.
 pub fn one_more_event()
     ensures after { (w : World) (events : List Event) (e : Event) → after w (events ++ e ∷ []) ≡ next (after w events) e }
-    ensures legal { (w : World) (events : List Event) (e : Event) → IsLegal w (events ++ e ∷ []) ↔ (IsLegal w events × Allows (after w events) e) }
+    ensures legal { (w : World) (events : List Event) (e : Event)
+        → IsLegal w (events ++ e ∷ []) ↔ (IsLegal w events × Allows (after w events) e) }
 {}
 
 /// A history in two parts is legal exactly where the first is, and the second is in the world after
 /// it.
 pub fn histories_in_two_parts()
     ensures after { (w : World) (events more : List Event) → after w (events ++ more) ≡ after (after w events) more }
-    ensures legal { (w : World) (events more : List Event) → IsLegal w (events ++ more) ↔ (IsLegal w events × IsLegal (after w events) more) }
+    ensures legal { (w : World) (events more : List Event)
+        → IsLegal w (events ++ more) ↔ (IsLegal w events × IsLegal (after w events) more) }
 {}
 
 /// So is a run.
@@ -44,5 +46,6 @@ pub fn a_part_starts()
 
 /// Marks that are none or of the cut that is there are never of another cut.
 pub fn present_marks_are_of_no_other_cut()
-    ensures { (w : World) (workers number : ℕ) (note : Note) → HasPresentMarks w (Mark workers) note → ¬ AllowsReply w (Mark workers) note (Refused (OtherCut number)) }
+    ensures { (w : World) (workers number : ℕ) (note : Note) → HasPresentMarks w (Mark workers) note
+        → ¬ AllowsReply w (Mark workers) note (Refused (OtherCut number)) }
 {}

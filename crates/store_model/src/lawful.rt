@@ -34,30 +34,39 @@ pub fn histories_keep_the_world_lawful()
 
 /// The names of a place count up from generation 1.
 pub fn names_count_up()
-    ensures { (w : World) (page slot : ℕ) → IsLawful w → generations_at w.graph page slot ≡ map suc (below (length (objects_at w.graph page slot))) }
+    ensures { (w : World) (page slot : ℕ) → IsLawful w
+        → generations_at w.graph page slot ≡ map suc (below (length (objects_at w.graph page slot))) }
 {}
 
 /// The name of a new object is in no committed object and in no open transaction.
 pub fn a_new_name_is_new()
-    ensures committed { (w : World) (number page : ℕ) (note : Note) (name : NameParts) → IsOrderly w → AllowsReply w (New number page) note (Made name) → has_object w.graph name ≡ false }
-    ensures own { (w : World) (number page : ℕ) (note : Note) (name : NameParts) → IsOrderly w → AllowsReply w (New number page) note (Made name) → AllByRecursion (λ t. has_name t.own name ≡ false) w.transactions }
+    ensures committed { (w : World) (number page : ℕ) (note : Note) (name : NameParts) → IsOrderly w
+        → AllowsReply w (New number page) note (Made name) → has_object w.graph name ≡ false }
+    ensures own { (w : World) (number page : ℕ) (note : Note) (name : NameParts) → IsOrderly w
+        → AllowsReply w (New number page) note (Made name)
+        → AllByRecursion (λ t. has_name t.own name ≡ false) w.transactions }
 {}
 
 /// What an open transaction holds is reached, or its own.
 pub fn what_a_transaction_holds_is_reached_or_its_own()
-    ensures { (w : World) (t : Transaction) (name : NameParts) → IsOrderly w → In t w.transactions → IsHeldBy w t name → IsTrue (has_name t.own name) ⊎ IsReached w name }
+    ensures { (w : World) (t : Transaction) (name : NameParts) → IsOrderly w → In t w.transactions → IsHeldBy w t name
+        → IsTrue (has_name t.own name) ⊎ IsReached w name }
 {}
 
 /// A commit adds to what is reached only own objects of the transaction that commits.
 pub fn a_commit_reaches_own_objects_alone()
-    ensures { (w : World) (number commits : ℕ) (note : Note) (name : NameParts) → IsOrderly w → AllowsReply w (Commit number) note (Committed commits)
-        → IsReached (after_reply w (Commit number) note (Committed commits)) name → IsTrue (has_name (transaction w number).own name) ⊎ IsReached w name }
+    ensures { (w : World) (number commits : ℕ) (note : Note) (name : NameParts) → IsOrderly w
+        → AllowsReply w (Commit number) note (Committed commits)
+        → IsReached (after_reply w (Commit number) note (Committed commits)) name
+        → IsTrue (has_name (transaction w number).own name) ⊎ IsReached w name }
 {}
 
 /// What is committed and out of reach stays so: nobody holds it, then and after each event.
 pub fn what_is_out_of_reach_stays_so()
-    ensures now { (w : World) (name : NameParts) → IsOrderly w → IsTrue (has_object w.graph name) → ¬ IsReached w name → IsOutOfReach w name }
-    ensures then_ { (w : World) (e : Event) (name : NameParts) → IsOrderly w → Allows w e → IsTrue (has_object w.graph name) → ¬ IsReached w name → IsOutOfReach (next w e) name }
+    ensures now { (w : World) (name : NameParts) → IsOrderly w → IsTrue (has_object w.graph name) → ¬ IsReached w name
+        → IsOutOfReach w name }
+    ensures then_ { (w : World) (e : Event) (name : NameParts) → IsOrderly w → Allows w e
+        → IsTrue (has_object w.graph name) → ¬ IsReached w name → IsOutOfReach (next w e) name }
 {}
 
 /// What is freed is out of reach of the root and of every open transaction.
@@ -67,13 +76,15 @@ pub fn what_is_freed_is_out_of_reach()
 
 /// Where the end of a cut is answered as done, all that was out of reach as it opened is freed.
 pub fn an_ended_cut_has_freed_all_that_was_lost()
-    ensures { (w : World) (cut : OpenedCut) (note : Note) (name : NameParts) → IsLawful w → w.cut ≡ Some cut → AllowsReply w EndCut note Done → IsLost cut.opening name → IsTrue (is_freed w name) }
+    ensures { (w : World) (cut : OpenedCut) (note : Note) (name : NameParts) → IsLawful w → w.cut ≡ Some cut
+        → AllowsReply w EndCut note Done → IsLost cut.opening name → IsTrue (is_freed w name) }
 {}
 
 /// So from the opening of a cut to its end: whatever was committed, unfreed and out of reach as the
 /// cut of this number opened is freed in the world in which its end is answered as done.
 pub fn what_was_out_of_reach_as_a_cut_opened_is_freed_as_it_ends()
-    ensures { (w : World) (note end_note : Note) (events : List Event) (cut : OpenedCut) (name : NameParts) → IsLawful w → AllowsReply w OpenCut note (Cut (w.last_cut + 1))
+    ensures { (w : World) (note end_note : Note) (events : List Event) (cut : OpenedCut) (name : NameParts) → IsLawful w
+        → AllowsReply w OpenCut note (Cut (w.last_cut + 1))
         → IsLegal (after_reply w OpenCut note (Cut (w.last_cut + 1))) events
         → (after (after_reply w OpenCut note (Cut (w.last_cut + 1))) events).cut ≡ Some cut → cut.number ≡ w.last_cut + 1
         → AllowsReply (after (after_reply w OpenCut note (Cut (w.last_cut + 1))) events) EndCut end_note Done
@@ -83,7 +94,8 @@ pub fn what_was_out_of_reach_as_a_cut_opened_is_freed_as_it_ends()
 
 /// The cut that is there is the last that was opened.
 pub fn the_cut_that_is_there_is_the_last()
-    ensures { (w : World) (events : List Event) → MatchOption w.cut (Unit {0}) (λ cut. cut.number ≡ w.last_cut) → MatchOption (after w events).cut (Unit {0}) (λ cut. cut.number ≡ (after w events).last_cut) }
+    ensures { (w : World) (events : List Event) → MatchOption w.cut (Unit {0}) (λ cut. cut.number ≡ w.last_cut)
+        → MatchOption (after w events).cut (Unit {0}) (λ cut. cut.number ≡ (after w events).last_cut) }
 {}
 
 /// Each object has as many references as an object of its page: in a fresh store, in one that is
@@ -92,7 +104,8 @@ pub fn objects_have_their_fields()
     ensures fresh { (pages : ℕ) → HaveFields (fields_of (fresh_world pages)) (fresh_world pages).graph }
     ensures opened { (commits : ℕ) (images : List (List SlotParts)) → AreImages images
         → HaveFields (fields_of (world_of commits images)) (world_of commits images).graph }
-    ensures kept { (w : World) (events : List Event) → HaveFields (fields_of w) w.graph → HaveFields (fields_of (after w events)) (after w events).graph }
+    ensures kept { (w : World) (events : List Event) → HaveFields (fields_of w) w.graph
+        → HaveFields (fields_of (after w events)) (after w events).graph }
 {}
 
 /// Each name of the graph is there once.
@@ -108,7 +121,9 @@ pub fn names_of_a_world_are_names()
     ensures opened { (commits : ℕ) (images : List (List SlotParts)) → AreImages images → length images ≤ MOST_PAGES
         → ((page slot : ℕ) → (slot_in images page slot).generation ≤ LAST_GENERATION) → HasProperNames (world_of commits images) }
     ensures kept { (w : World) (e : Event) → IsOrderly w → HasProperNames w → Allows w e → HasProperNames (next w e) }
-    ensures histories { (w : World) (events : List Event) → IsLawful w → HasProperNames w → IsLegal w events → HasProperNames (after w events) }
+    ensures histories { (w : World) (events : List Event) → IsLawful w → HasProperNames w → IsLegal w events
+        → HasProperNames (after w events) }
     ensures freed { (w : World) (name : NameParts) → IsOrderly w → HasProperNames w → IsTrue (is_freed w name) → IsName name }
-    ensures known { (w : World) (t : Transaction) (name : NameParts) → IsOrderly w → HasProperNames w → In t w.transactions → IsTrue (has_name t.known name) → IsName name }
+    ensures known { (w : World) (t : Transaction) (name : NameParts) → IsOrderly w → HasProperNames w
+        → In t w.transactions → IsTrue (has_name t.known name) → IsName name }
 {}

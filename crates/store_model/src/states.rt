@@ -17,21 +17,25 @@ pub fn what_is_committed_is_a_state()
 /// A commit in doubt is done or it isn't.
 pub fn a_commit_in_doubt_is_done_or_not()
     ensures done { (w : World) (number : ℕ) → w.doubt ≡ commit_in_doubt number → IsStateOf w (state_after w (transaction w number)) }
-    ensures only { (w : World) (number : ℕ) (s : State) → w.doubt ≡ commit_in_doubt number → IsStateOf w s → (s ≡ state_of w) ⊎ (s ≡ state_after w (transaction w number)) }
+    ensures only { (w : World) (number : ℕ) (s : State) → w.doubt ≡ commit_in_doubt number → IsStateOf w s
+        → (s ≡ state_of w) ⊎ (s ≡ state_after w (transaction w number)) }
 {}
 
 /// A sweep in doubt freed a set of slots that a sweep of its page may free, or it freed nothing.
 pub fn a_sweep_in_doubt_is_done_or_not()
-    ensures done { (w : World) (page slots : ℕ) → w.doubt ≡ sweep_in_doubt page → MayFreeNow w page slots → IsStateOf w (state_of (swept w page slots)) }
+    ensures done { (w : World) (page slots : ℕ) → w.doubt ≡ sweep_in_doubt page → MayFreeNow w page slots
+        → IsStateOf w (state_of (swept w page slots)) }
     ensures only { (w : World) (page : ℕ) (s : State) → w.doubt ≡ sweep_in_doubt page → IsStateOf w s
         → (s ≡ state_of w) ⊎ ((slots : ℕ) × MayFreeNow w page slots × (s ≡ state_of (swept w page slots))) }
 {}
 
 /// A reopening leaves a state of the world as what is committed, and it may leave each of them.
 pub fn a_reopening_finds_a_state()
-    ensures finds { (w : World) (note : Note) (commits : ℕ) → AllowsReply w Reopen note (Reopened commits) → IsStateOf w (state_of (after_reply w Reopen note (Reopened commits))) }
+    ensures finds { (w : World) (note : Note) (commits : ℕ) → AllowsReply w Reopen note (Reopened commits)
+        → IsStateOf w (state_of (after_reply w Reopen note (Reopened commits))) }
     ensures may_be_found { (w : World) (s : State) → IsStateOf w s
-        → (names : List NameParts) × AllowsReply w Reopen (found names) (Reopened s.commits) × (s ≡ state_of (after_reply w Reopen (found names) (Reopened s.commits))) }
+        → (names : List NameParts) × AllowsReply w Reopen (found names) (Reopened s.commits)
+        × (s ≡ state_of (after_reply w Reopen (found names) (Reopened s.commits))) }
 {}
 
 /// A further fault leaves the states.

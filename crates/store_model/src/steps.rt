@@ -29,7 +29,8 @@ pub fn commits_do_not_fall()
 
 /// What was committed stays in the graph.
 pub fn committed_names_stay()
-    ensures { (w : World) (e : Event) (name : NameParts) → IsOrderly w → Allows w e → IsTrue (has_object w.graph name) → IsTrue (has_object (next w e).graph name) }
+    ensures { (w : World) (e : Event) (name : NameParts) → IsOrderly w → Allows w e → IsTrue (has_object w.graph name)
+        → IsTrue (has_object (next w e).graph name) }
 {}
 
 /// What was freed stays freed.
@@ -39,5 +40,6 @@ pub fn freed_names_stay()
 
 /// In a broken world every call but a reopening is refused as broken.
 pub fn broken_comes_first()
-    ensures { (w : World) (call : AnyCall) (note : Note) (count : ℕ) → call ≢ Reopen → w.broken ≡ Some count → first_refusal w call note ≡ Some (Broken count) }
+    ensures { (w : World) (call : AnyCall) (note : Note) (count : ℕ) → call ≢ Reopen → w.broken ≡ Some count
+        → first_refusal w call note ≡ Some (Broken count) }
 {}

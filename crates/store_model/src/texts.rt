@@ -7,7 +7,8 @@ ghost use Rattle.store_model.specs.Texts.{reply_text, reply_numbers, FreesSlots,
 
 /// No two calls have one text. A copy that is handed in is left out: its text is that of a copy.
 pub fn no_two_calls_have_one_text()
-    ensures { (a b : AnyCall) → IsTrue (not (is_hand_in a)) → IsTrue (not (is_hand_in b)) → AreShort (call_numbers a) → AreShort (call_numbers b) → call_text a ≡ call_text b → a ≡ b }
+    ensures { (a b : AnyCall) → IsTrue (not (is_hand_in a)) → IsTrue (not (is_hand_in b)) → AreShort (call_numbers a)
+        → AreShort (call_numbers b) → call_text a ≡ call_text b → a ≡ b }
 {}
 
 /// No two refusals have one text.
@@ -17,5 +18,6 @@ pub fn no_two_refusals_have_one_text()
 
 /// No two replies have one text, where those that tell what was freed tell sets of slots.
 pub fn no_two_replies_have_one_text()
-    ensures { (a b : AnyReply) → FreesSlots a → FreesSlots b → AreShort (reply_numbers a) → AreShort (reply_numbers b) → reply_text a ≡ reply_text b → a ≡ b }
+    ensures { (a b : AnyReply) → FreesSlots a → FreesSlots b → AreShort (reply_numbers a) → AreShort (reply_numbers b)
+        → reply_text a ≡ reply_text b → a ≡ b }
 {}

@@ -54,7 +54,8 @@ WritesLine WriteFault before now line = AppendsFront before now line
 WritesLine status before now line = Appends before now []
 
 -- One history, legal from the world of the fresh store, says what was done and written, and what a crash leaves.
-pub record Generated {D : Type 0} (disks : DiskOf D) (status : Status) (from count : ℕ) (old new : D) (held_before held_now : Option (List ℕ)) : Type 0 where
+pub record Generated {D : Type 0} (disks : DiskOf D) (status : Status) (from count : ℕ) (old new : D)
+    (held_before held_now : Option (List ℕ)) : Type 0 where
   pub world : World
   pub history : List Event
   pub just_opened : IsJustOpened world
@@ -63,10 +64,12 @@ pub record Generated {D : Type 0} (disks : DiskOf D) (status : Status) (from cou
   pub is_run : IsRun world history
   pub follows : FollowsRounds status from count history
   pub written : WritesLine status held_before held_now (summary count world history)
-  pub crashes : IfSome (disks.content old) (λ _. (file : List ℕ) → disks.may_leave new file → StandsForWorld file (after world history))
+  pub crashes : IfSome (disks.content old) (λ _. (file : List ℕ) → disks.may_leave new file
+      → StandsForWorld file (after world history))
   pub faults : FaultsAscend (disks.fault_count old) (disks.fault_count new) history
 
--- Which of the two it is: a run, or its end before the first call, where nothing was written. A store that was just made is opened wherever the disk tells.
+-- Which of the two it is: a run, or its end before the first call, where nothing was written. A store that was just
+-- made is opened wherever the disk tells.
 abbrev pub GeneratedBy : Status → ℕ → Option (List ℕ) → Type 0 → Type 0 → Type 0
 GeneratedBy Done size content generated unwritten = generated
 GeneratedBy WriteFault size content generated unwritten = generated
@@ -78,7 +81,8 @@ GeneratedBy (TooShort len need) size content generated unwritten = unwritten × 
 GeneratedBy status size content generated unwritten = ⊥
 
 -- rounds were made on a store that was just opened
-pub record RoundsMade {D : Type 0} (disks : DiskOf D) (status : Status) (from count : ℕ) (core : Seen D) (new : D) (held_before held_now : Option (List ℕ)) : Type 0 where
+pub record RoundsMade {D : Type 0} (disks : DiskOf D) (status : Status) (from count : ℕ) (core : Seen D) (new : D)
+    (held_before held_now : Option (List ℕ)) : Type 0 where
   pub last : Seen D
   pub disk_is : new ≡ last.disk
   pub history : List Event

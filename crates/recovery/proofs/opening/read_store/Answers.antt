@@ -66,7 +66,7 @@ returns-in_err-pages-clause-bad g c at e =
     let after : g.D.Disk.content c.open_area.new.disk ≡ Some file = c.open_area.ensures.reads.content ∙ now in
     let found = in_some (g.D.Disk.content c.read_super.new.disk) _ file now c.in-Ok-open_area.ensures.found in
     let h = read_from c.in-Ok.found.pages c.in-Ok.found.area c.in-Ok-open_area.opened.0 c.in-Ok-open_area.opened.1 file (in_some (g.D.Disk.content c.args.disk.now) _ file told c.in-Ok.ensures.found)
-        (long_enough _ (g.D.Disk.size c.args.disk.now) file c.in-Ok.ensures.long (g.met.D.Disk.told_whole c.args.disk.now file told)) c.in-Ok-open_area.ensures.asked.1 c.in-Ok-open_area.ensures.asked.0 found in
+    (long_enough _ (g.D.Disk.size c.args.disk.now) file c.in-Ok.ensures.long (g.met.D.Disk.told_whole c.args.disk.now file told)) c.in-Ok-open_area.ensures.asked.1 c.in-Ok-open_area.ensures.asked.0 found in
     home_wrong c.in-Ok.found.pages c.in-Ok.found.area c.in-Ok-open_area.opened.0 c.in-Ok-open_area.opened.1 file h c.deref.result.now at c.deref.ensures.value
     (in_some (g.D.Disk.content c.open_area.new.disk) _ file after (c.in_err-pages.ensures.bad at (ap (λ (x : OpenFault). Err x) is))))
 
@@ -93,7 +93,7 @@ returns-in-Err-check_pages-clause-bad g c at e =
     let after : g.D.Disk.content c.open_area.new.disk ≡ Some file = c.open_area.ensures.reads.content ∙ now in
     let found = in_some (g.D.Disk.content c.read_super.new.disk) _ file now c.in-Ok-open_area.ensures.found in
     let h = read_from c.in-Ok.found.pages c.in-Ok.found.area c.in-Ok-open_area.opened.0 c.in-Ok-open_area.opened.1 file (in_some (g.D.Disk.content c.args.disk.now) _ file told c.in-Ok.ensures.found)
-        (long_enough _ (g.D.Disk.size c.args.disk.now) file c.in-Ok.ensures.long (g.met.D.Disk.told_whole c.args.disk.now file told)) c.in-Ok-open_area.ensures.asked.1 c.in-Ok-open_area.ensures.asked.0 found in
+    (long_enough _ (g.D.Disk.size c.args.disk.now) file c.in-Ok.ensures.long (g.met.D.Disk.told_whole c.args.disk.now file told)) c.in-Ok-open_area.ensures.asked.1 c.in-Ok-open_area.ensures.asked.0 found in
     pages_wrong file (record { commits = c.in-Ok-open_area.opened.0.base + c.in-Ok-open_area.opened.0.commits; pages = c.in_ok-pages.pages.items }) at
     (opens_to c.in-Ok.found.pages c.in-Ok.found.area c.in-Ok-open_area.opened.0 c.in-Ok-open_area.opened.1 file h c.deref.result.now c.in_ok-pages.pages.items (c.in-Ok-open_area.opened.0.base + c.in-Ok-open_area.opened.0.commits) c.deref.ensures.value
     (in_some (g.D.Disk.content c.open_area.new.disk) _ file after c.in_ok-pages.ensures.read) refl)
@@ -106,7 +106,7 @@ returns-clause-store g c =
     let after : g.D.Disk.content c.open_area.new.disk ≡ Some file = c.open_area.ensures.reads.content ∙ now in
     let found = in_some (g.D.Disk.content c.read_super.new.disk) _ file now c.in-Ok-open_area.ensures.found in
     let h = read_from c.in-Ok.found.pages c.in-Ok.found.area c.in-Ok-open_area.opened.0 c.in-Ok-open_area.opened.1 file (in_some (g.D.Disk.content c.args.disk.now) _ file told c.in-Ok.ensures.found)
-        (long_enough _ (g.D.Disk.size c.args.disk.now) file c.in-Ok.ensures.long (g.met.D.Disk.told_whole c.args.disk.now file told)) c.in-Ok-open_area.ensures.asked.1 c.in-Ok-open_area.ensures.asked.0 found in
+    (long_enough _ (g.D.Disk.size c.args.disk.now) file c.in-Ok.ensures.long (g.met.D.Disk.told_whole c.args.disk.now file told)) c.in-Ok-open_area.ensures.asked.1 c.in-Ok-open_area.ensures.asked.0 found in
     record {
       opens = opens_to c.in-Ok.found.pages c.in-Ok.found.area c.in-Ok-open_area.opened.0 c.in-Ok-open_area.opened.1 file h c.deref.result.now c.in_ok-pages.pages.items _ c.deref.ensures.value
           (in_some (g.D.Disk.content c.open_area.new.disk) _ file after c.in_ok-pages.ensures.read) (ap (λ (n : ℕ). n + c.commits.result) c.base.ensures ∙ ap (λ (n : ℕ). c.in-Ok-open_area.opened.0.base + n) c.commits.ensures.value);
