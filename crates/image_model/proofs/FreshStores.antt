@@ -1,19 +1,14 @@
 -- A fresh store opens to the fresh world.
-use Rattle.std.proofs.Common.{◌≡◌, ℕ, suc, ◌+◌, ◌<◌, Bool, true, false, ◌&&◌, ◌==◌, cond, if◌then◌else◌, List, [], ◌∷◌, ◌++◌, map, length, refl, sym, subst, ap, ◌∙◌, arith, nat_eq, inl, inr}
-use Rattle.std.specs.List.{filter}
+use Rattle.std.proofs.Common.{◌≡◌, ℕ, suc, ◌+◌, ◌<◌, Bool, true, false, if◌then◌else◌, List, [], ◌∷◌, ◌++◌, map, length, refl, sym, subst, ap, ◌∙◌, arith, nat_eq, inl, inr}
 use Rattle.std.proofs.lemmas.Bool.{eqb-true, cases_Bool}
 use Rattle.std.proofs.lemmas.List.{map-append}
-use Rattle.object_graph.specs.declared.names.TheConstants.{OBJECT_FIELDS}
-use Rattle.object_graph.specs.declared.sizes.TheConstants.{SLOTS_PER_PAGE}
-use Rattle.object_graph.specs.Graphs.{fresh_graph}
 use Rattle.object_graph.specs.Slots.{below}
 use Rattle.object_graph.specs.SlotParts.{SlotParts}
-use Rattle.object_graph.specs.ObjectParts.{ObjectParts}
 use Rattle.page_image.specs.Slots.{taken}
 use Rattle.page_image.specs.Pages.{PageParts, empty_page, with_slot}
 use Rattle.redo_journal.specs.Record.{numbers_of}
-use Rattle.store_model.specs.Worlds.{is_unfreed, fresh_world}
-use Rattle.store_model.specs.Images.{slot_with, shown_of, shown, all_shown}
+use Rattle.store_model.specs.Worlds.{fresh_world}
+use Rattle.store_model.specs.Images.{shown, all_shown}
 use Rattle.store_model.specs.FromImages.{world_of}
 use Rattle.store_model.proofs.Flats.{length-map_below}
 use Rattle.store_model.proofs.FreshImages.{fresh_slots, fresh_shown as shows, fresh_opens}

@@ -1,19 +1,13 @@
 -- The pages of a fresh store, of which page 0 has the root.
-use Rattle.std.proofs.Common.{◌≡◌, ℕ, suc, ◌+◌, ◌<◌, ◌≤◌, Bool, true, false, ◌&&◌, ◌==◌, cond, if◌then◌else◌, List, [], ◌∷◌, ◌++◌, map, length, refl, sym, subst, ap, ◌∙◌, arith, nat_eq, inl, inr}
-use Rattle.std.specs.List.{filter}
+use Rattle.std.proofs.Common.{◌≡◌, ℕ, suc, ◌+◌, ◌<◌, ◌≤◌, Bool, true, false, if◌then◌else◌, List, [], ◌∷◌, ◌++◌, map, length, refl, sym, subst, ap, ◌∙◌, arith, nat_eq, inl, inr}
 use Rattle.std.specs.Bool.{IsTrue}
 use Rattle.std.proofs.lemmas.Bool.{eqb-true, cases_Bool}
 use Rattle.std.proofs.lemmas.List.{map-append}
 use Rattle.std.proofs.lemmas.Option.{slice_get_within, get_or_from_slice_get}
-use Rattle.object_graph.specs.Graphs.{fresh_graph}
 use Rattle.object_graph.specs.Slots.{below}
-use Rattle.object_graph.specs.SlotParts.{SlotParts}
-use Rattle.object_graph.specs.ObjectParts.{ObjectParts}
 use Rattle.object_graph.specs.declared.limits.TheConstants.{MOST_PAGES}
-use Rattle.object_graph.specs.declared.names.TheConstants.{OBJECT_FIELDS}
-use Rattle.object_graph.specs.declared.sizes.TheConstants.{SLOTS_PER_PAGE}
-use Rattle.store_model.specs.Worlds.{is_unfreed, fresh_world}
-use Rattle.store_model.specs.Images.{slot_with, shown_of, shown, all_shown}
+use Rattle.store_model.specs.Worlds.{fresh_world}
+use Rattle.store_model.specs.Images.{shown, all_shown}
 use Rattle.store_model.specs.FromImages.{has_root, IsWhole}
 use Rattle.store_model.proofs.Flats.{get-map_below, length-map_below}
 use Rattle.store_model.proofs.FreshImages.{fresh_slots, fresh_shown}
