@@ -1,5 +1,5 @@
 -- A script of lanes in the grammar is run to its end where nothing fails.
-use Rattle.std.proofs.Common.{◌≡◌, refl, sym, ap, ◌∙◌, subst, ℕ, ◌+◌, ◌<◌, inl, inr, ⊎_elim, List, [], ◌∷◌, ◌++◌, length, Option, Some, append_assoc, append-nil, arith, length-append}
+use Rattle.std.proofs.Common.{◌≡◌, refl, sym, ap, ◌∙◌, subst, ℕ, ◌+◌, inl, inr, ⊎_elim, List, [], ◌∷◌, ◌++◌, length, Option, Some, append-nil, arith, length-append}
 use Rattle.std.specs.Prelude.{IfSome}
 use Rattle.disk_trait.specs.declared.disk.Disk.{Ghosts as DiskOf}
 use Rattle.disk_trait.specs.Causes.{Rose}
@@ -7,17 +7,16 @@ use Rattle.image_model.specs.Opening.{not_a_store, damaged}
 use Rattle.image_model.specs.Stands.{opened}
 use Rattle.image_model.specs.Stores.{HasFault}
 use Rattle.script_lang.specs.declared.line.LaneLine.{LaneLine}
-use Rattle.script_lang.specs.declared.line.TheConstants.{LINE_LIMIT}
 use Rattle.script_lang.specs.Script.{lines_of, SaysInLane}
 use Rattle.script_lang.proofs.OneMeaning.{one_lane_thing}
 use Rattle.store_lanes.specs.LaneScripts.{SayInLanes}
 use Rattle.store_model.specs.Worlds.{World}
 use Rattle.store_run.specs.Complete.{IsDoneOrMemory}
-use Rattle.store_run.specs.Ran.{EndsLine, OpensTo}
+use Rattle.store_run.specs.Ran.{OpensTo}
 use Rattle.store_run.specs.declared.pieces.TheConstants.{SCRIPT_LIMIT}
 use Rattle.store_run.specs.declared.status.Status.{Status}
 use Rattle.store_run.specs.declared.status.Status.TheVariants.{Done, BadLine, TooLong, ReadFault, WriteFault, DiskFault, NotAStore, Damaged, Memory}
-use Rattle.store_run.proofs.Completes.{TakenOf, taken_of, meets_line, nothing_left, whole_front, goes_on, whole_text, no_more, HasNoFault, told_no_fault}
+use Rattle.store_run.proofs.Completes.{TakenOf, taken_of, meets_line, nothing_left, HasNoFault, told_no_fault}
 use Rattle.lanes_run.specs.Asked.{entries_asked}
 use Rattle.lanes_run.specs.Complete.{IsLaneScript}
 use Rattle.lanes_run.specs.Judged.{HasBadLine, GoBeyond, AskTooMuch}

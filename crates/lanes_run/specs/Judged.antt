@@ -1,7 +1,7 @@
 -- How a script of lanes is judged. Of all that can be wrong what counts at the earliest byte is told: a bad line
 -- counts at its 201st byte, and a
 -- shorter one at its line end or at the end of input.
-use Rattle.std.specs.Prelude.{◌≡◌, ◌⊎◌, ℕ, ◌+◌, ◌≤◌, ◌<◌, List, [], ◌∷◌, ◌++◌, length, Option}
+use Rattle.std.specs.Prelude.{◌≡◌, ◌⊎◌, ℕ, ◌≤◌, ◌<◌, List, [], ◌∷◌, ◌++◌, length, Option}
 use Rattle.std.specs.Io.KnownBytes.{IsAtEnd}
 use Rattle.script_lang.specs.declared.line.LaneLine.{LaneLine}
 use Rattle.script_lang.specs.declared.line.TheConstants.{LINE_LIMIT}
@@ -10,7 +10,7 @@ use Rattle.script_lang.specs.Words.{Without}
 use Rattle.store_lanes.specs.LaneScripts.{SayInLanes}
 use Rattle.store_run.specs.Pieces.{whole_lines}
 use Rattle.store_run.specs.Ran.{StopsAtLine}
-use Rattle.store_run.specs.declared.pieces.TheConstants.{SCRIPT_LIMIT, PIECE_LIMIT}
+use Rattle.store_run.specs.declared.pieces.TheConstants.{SCRIPT_LIMIT}
 use Rattle.store_run.specs.declared.status.Status.{Status}
 use Rattle.store_run.specs.declared.status.Status.TheVariants.{BadLine, TooLong, ReadFault, Memory}
 use Rattle.lanes_run.specs.Asked.{entries_asked}

@@ -1,9 +1,9 @@
 -- The desk may be shared, and a seat at it may go from one thread to another, where the disk may go. A search for the whole
 -- stops at its limit, so its parts are put together here.
 use denote.RattleType.{RattleType}
-use denote.Param.Send.{IsSend, IsSync, struct_send, struct_sync, recorded_send, recorded_sync, view_send, view_sync, enum_send, sendable}
+use denote.Param.Send.{IsSend, IsSync, struct_send, struct_sync, recorded_send, recorded_sync, view_send, view_sync, sendable}
 use denote.Struct.Declared.{shape}
-use Rattle.std.proofs.Crossing.{Vec-send, send as heap_send}
+use Rattle.std.proofs.Crossing.{Vec-send}
 use Rattle.std.specs.contracts.snapshot.Snapshot as snapshot
 use Rattle.told.proofs.value.Told.TheSendSync as kept
 use Rattle.object_graph.proofs.calls.Entry.TheSendSync as entry

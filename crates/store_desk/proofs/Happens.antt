@@ -1,30 +1,28 @@
 -- What one event of the core does.
-use Rattle.std.proofs.Common.{◌≡◌, ◌≢◌, refl, sym, ap, ◌∙◌, subst, ℕ, true, false, inl, inr, ⊎_elim, List, [], ◌∷◌, Option, Some, None, arith}
-use Rattle.std.specs.Prelude.{IfSome, IsTrue, is_some, unwrap_or, Result, Ok, Err, IfOk, length}
+use Rattle.std.proofs.Common.{◌≡◌, ◌≢◌, refl, sym, ap, ◌∙◌, subst, ℕ, inl, inr, ⊎_elim, List, [], ◌∷◌, Option, Some, None, arith}
+use Rattle.std.specs.Prelude.{IfSome, IsTrue, is_some, unwrap_or, Result, Ok, Err}
 use Rattle.object_graph.specs.NameParts.{NameParts}
-use Rattle.object_graph.specs.SlotParts.{SlotParts}
 use Rattle.object_graph.specs.declared.calls.Call.{Call}
-use Rattle.object_graph.specs.declared.calls.Call.TheVariants.{Close, Mark, Reopen}
+use Rattle.object_graph.specs.declared.calls.Call.TheVariants.{Mark, Reopen}
 use Rattle.object_graph.specs.declared.calls.Refusal.{Refusal}
 use Rattle.object_graph.specs.declared.calls.Refusal.TheVariants.{DiskFault}
 use Rattle.object_graph.specs.declared.calls.Reply.{Reply}
-use Rattle.object_graph.specs.declared.calls.Reply.TheVariants.{Done, Refused, Reopened}
+use Rattle.object_graph.specs.declared.calls.Reply.TheVariants.{Refused, Reopened}
 use Rattle.disk_trait.specs.declared.disk.Disk.{Ghosts as DiskOf}
 use Rattle.disk_trait.specs.Causes.{Rose}
 use Rattle.disk_trait.specs.DiskFacts.{LeavesOnly, KeepsDisk}
 use Rattle.store_model.specs.Worlds as model
 use Rattle.store_model.specs.Worlds.{World, nothing, faults, images, marks, found}
 use Rattle.store_model.specs.Faults.{FaultsAscend, counts_noted}
-use Rattle.store_model.specs.FromImages.{world_of}
 use Rattle.store_model.specs.Replies.{Allows}
-use Rattle.store_model.specs.Steps.{next, after_reply, after_refusal}
+use Rattle.store_model.specs.Steps.{next}
 use Rattle.store_model.proofs.FaultCounts.{none_ascends}
 use Rattle.image_model.specs.Stands.{StandsForWorld}
 use Rattle.cut_model.specs.CutPages.{CutPage}
 use Rattle.cut_builder.specs.CutParts.{ClosedParts, MarkedParts}
 use Rattle.cut_core.specs.Calls.{event_of, note_of}
 use Rattle.cut_core.specs.Given.{HasGiven, mark_event, marked_reply}
-use Rattle.cut_core.specs.Reopening.{Happens, IsNoteOf, IsOpenedAnew, IsOfReopening, with_last_cut}
+use Rattle.cut_core.specs.Reopening.{Happens, IsNoteOf, IsOpenedAnew, IsOfReopening}
 use Rattle.cut_core.specs.Seen.{Seen, StandsForEither}
 use Rattle.store_machine.proofs.Counts.{ascend_once, breaks, broken_not_none}
 use Rattle.store_machine.proofs.Moments.{if_some_map}
@@ -35,7 +33,7 @@ use Rattle.store_desk.specs.Events.{entry, note_in, told, Keeps, plain_note}
 use Rattle.store_desk.specs.Happenings.{Happened, FindsFreed, reopening}
 use Rattle.store_desk.specs.declared.event.Event.{Event}
 use Rattle.store_desk.specs.declared.event.Note.{Note}
-use Rattle.store_desk.specs.declared.event.Note.TheVariants.{Nothing, Faults, Images, Marks, Found}
+use Rattle.store_desk.specs.declared.event.Note.TheVariants.{Marks}
 
 -- an event of a lane
 abbrev pub event : ℕ → Call → Reply → Note → Event

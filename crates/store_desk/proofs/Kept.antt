@@ -1,18 +1,15 @@
 -- The state keeps what is true of it over an event.
-use Rattle.std.proofs.Common.{◌≡◌, ◌≢◌, refl, sym, ap, ◌∙◌, subst, ℕ, true, inl, inr, ⊎_elim, List, [], ◌∷◌, ◌++◌, Option, Some, None, arith}
+use Rattle.std.proofs.Common.{◌≡◌, ◌≢◌, refl, sym, ap, ◌∙◌, subst, ℕ, inl, inr, ⊎_elim, List, [], ◌∷◌, ◌++◌, Option, Some, None, arith}
 use Rattle.std.proofs.lemmas.List.{map-append}
 use Rattle.std.specs.Prelude.{IfSome, IsTrue, is_some}
-use Rattle.std.specs.List.{AllByRecursion}
 use Rattle.object_graph.specs.declared.calls.Call.TheVariants.{Reopen}
-use Rattle.object_graph.specs.Members.{In}
 use Rattle.object_graph.proofs.Members.{each_in, each_from, in_append, append_left, append_right}
 use Rattle.disk_trait.specs.declared.disk.Disk.{Ghosts as DiskOf}
-use Rattle.disk_trait.specs.DiskFacts.{LeavesOnly, KeepsDisk}
+use Rattle.disk_trait.specs.DiskFacts.{LeavesOnly}
 use Rattle.store_model.specs.Worlds as model
 use Rattle.store_model.specs.Worlds.{World}
 use Rattle.store_model.specs.Faults.{FaultsAscend}
 use Rattle.store_model.specs.Histories.{after, IsLegal}
-use Rattle.store_model.specs.Replies.{Allows}
 use Rattle.store_model.specs.Steps.{next}
 use Rattle.store_model.proofs.Parts.{after-append, IsLegal-append}
 use Rattle.store_model.proofs.FaultCounts.{none_ascends, ascend_over_parts}
@@ -23,7 +20,7 @@ use Rattle.cut_core.specs.Seen.{Seen, StandsForEither}
 use Rattle.store_machine.specs.Acts.{StandsForFront}
 use Rattle.store_machine.specs.Faults.{NoneFailed}
 use Rattle.store_machine.proofs.Counts.{all_before, all_after, none_or_some, rose_later, rose_before, broken_not_none}
-use Rattle.store_machine.proofs.Moments.{if_some_map, leaves_more, leaves_then, front_none, front_all, front_before, front_after}
+use Rattle.store_machine.proofs.Moments.{if_some_map, leaves_more, leaves_then, front_none, front_all, front_before}
 use Rattle.store_desk.specs.Chronicles.{IsKnown, KeepsCut, KeepCuts, IsChronicle}
 use Rattle.store_desk.specs.Events.{told, history, Keeps, HasClosing}
 use Rattle.store_desk.specs.Happenings.{Happened}

@@ -1,5 +1,5 @@
 -- A seat after a call in its turn.
-use Rattle.std.proofs.Common.{◌≡◌, ℕ, ◌+◌, ◌-◌, List, [], ◌∷◌, ◌++◌, length, Result, Ok, Err, sym, ap, ◌∙◌, subst, refl, append-nil, arith}
+use Rattle.std.proofs.Common.{◌≡◌, ℕ, ◌+◌, ◌-◌, List, [], ◌∷◌, ◌++◌, length, Result, Ok, Err, sym, ap, ◌∙◌, subst, append-nil, arith}
 use Rattle.std.proofs.Math.ListN.{length-append}
 use Rattle.std.specs.Prelude.{Option, Some, None, IfSome}
 use Rattle.object_graph.specs.declared.calls.Call.{Call}
@@ -16,7 +16,7 @@ use Rattle.store_desk.specs.Appended.{Appended, Did, DidClose, DidMark, IsOf, Is
 use Rattle.store_desk.specs.Chronicles.{IsKnown, IsChronicle}
 use Rattle.store_desk.specs.Events.{history, HasClosing}
 use Rattle.store_desk.specs.Seats.{AtDesk, Saw, Looked, Entered, Called, ClosedBy, MarkedBy}
-use Rattle.store_desk.specs.States.{State, IsKept, IsKeptIn}
+use Rattle.store_desk.specs.States.{State, IsKeptIn}
 use Rattle.store_desk.specs.declared.event.Event.{Event}
 use Rattle.store_desk.proofs.Kept.{closing_in_more}
 

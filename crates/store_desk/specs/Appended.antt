@@ -1,5 +1,5 @@
 -- One event more in the chronicle.
-use Rattle.std.specs.Prelude.{◌≡◌, ℕ, ◌+◌, Option, List, [], ◌∷◌, ◌++◌, length, Result, IfOk, IfErr, OnErr, option_map}
+use Rattle.std.specs.Prelude.{◌≡◌, ℕ, ◌+◌, Option, [], ◌∷◌, ◌++◌, length, Result, IfOk, IfErr, OnErr, option_map}
 use Rattle.object_graph.specs.declared.memory.Memory.{Memory}
 use Rattle.object_graph.specs.declared.calls.Call.{Call}
 use Rattle.object_graph.specs.declared.calls.Call.TheVariants.{Close, Mark, Reopen}

@@ -1,4 +1,4 @@
-use Rattle.std.proofs.Common.{◌≡◌, refl, sym, subst, None}
+use Rattle.std.proofs.Common.{refl, sym, subst, None}
 use Rattle.object_graph.specs.declared.calls.Call.TheVariants.{Mark}
 use Rattle.object_graph.specs.declared.calls.Refusal.{Refusal}
 use Rattle.object_graph.specs.declared.calls.Reply.TheVariants.{Refused}

@@ -1,13 +1,12 @@
-use Rattle.std.proofs.Common.{◌≡◌, ◌≢◌, ℕ, refl, sym, ap, ◌∙◌, subst, rules}
+use Rattle.std.proofs.Common.{◌≡◌, ℕ, sym, ap, ◌∙◌, subst, rules}
 use Rattle.std.specs.Prelude.{IfSome}
 use Rattle.object_graph.specs.declared.calls.Call.TheVariants.{Reopen}
-use Rattle.object_graph.specs.declared.calls.Refusal.{Refusal}
 use Rattle.object_graph.specs.declared.calls.Refusal.TheVariants.{DiskFault}
 use Rattle.object_graph.specs.declared.calls.Reply.{Reply}
 use Rattle.object_graph.specs.declared.calls.Reply.TheVariants.{Refused, Reopened}
 use Rattle.cut_core.specs.Seen.{Seen}
 use Rattle.store_desk.specs.Events.{plain_note, note_in, Keeps}
-use Rattle.store_desk.specs.Happenings.{Happened, FindsFreed}
+use Rattle.store_desk.specs.Happenings.{FindsFreed}
 use Rattle.store_desk.proofs.Happens.{event, some_names, not_reopened, happened_found, happened_refused}
 use Rattle.store_desk.proofs.happening.reopen.Goals.{in-Reopened, in_default}
 use Rattle.store_desk.proofs.happening.reopen.Goals as goal
