@@ -52,12 +52,13 @@ fn read_pieces<S: Source>(
         lines: 0,
         entries: 0,
     };
+    let mut room = [0; PIECE_LIMIT];
     'pieces: loop {
         if bytes.reserve(PIECE_LIMIT).is_err() {
             return Err(Status::Memory);
         }
         let before = unread.ahead.len();
-        match unread.read_piece(source) {
+        match unread.read_piece(source, &mut room) {
             Err(status) => return Err(status),
             Ok(count) => {
                 if count == 0 {

@@ -41,8 +41,12 @@ impl Unread {
     }
 
     /// Reads a piece, and never more than a byte above a script's limit. Answers how many bytes it
-    /// has; 0 is the end of input.
-    pub fn read_piece<S: Source>(&mut self, source: &mut S) -> Result<usize, Status>
+    /// has; 0 is the end of input. The room is for the bytes on their way, and means nothing after.
+    pub fn read_piece<S: Source>(
+        &mut self,
+        source: &mut S,
+        room: &mut [u8; PIECE_LIMIT],
+    ) -> Result<usize, Status>
         requires short { vec_len self.old.ahead ≤ LINE_LIMIT }
         requires room { UNREAD_ROOM ≤ vec_capacity self.old.ahead }
         requires within { self.old.taken ≤ SCRIPT_LIMIT }
@@ -51,12 +55,11 @@ impl Unread {
         ensures cause { result ≡ Err Status.ReadFault → Rose (S.faults source.old) (S.faults source.new) }
         ensures calm { result ≢ Err Status.ReadFault → S.faults source.new ≡ S.faults source.old }
     {
-        let room = PIECE_LIMIT.min(SCRIPT_LIMIT - self.taken);
-        if room == 0 {
+        let most = PIECE_LIMIT.min(SCRIPT_LIMIT - self.taken);
+        if most == 0 {
             return read_end(source);
         }
-        let mut piece = [0u8; PIECE_LIMIT];
-        let out = &mut piece[..room];
+        let out = &mut room[..most];
         match source.read(out) {
             Err(_) => Err(Status::ReadFault),
             Ok(count) => {

@@ -7,7 +7,7 @@ ghost use Rattle.store_run.specs.Lines.{LineRan, FrontRan, PieceRan, EndRan, Scr
 
 use crate::calls::{REPLY_ROOM, run_call, run_collection};
 use crate::meaning::meaning_of;
-use crate::pieces::{SCRIPT_LIMIT, UNREAD_ROOM, Unread};
+use crate::pieces::{PIECE_LIMIT, SCRIPT_LIMIT, UNREAD_ROOM, Unread};
 use crate::status::Status;
 use disk_trait::{Disk, Sink, Source};
 use object_graph::Steps;
@@ -183,8 +183,9 @@ pub fn run_script<T: Threads + Sync, D: Disk, S: Source, K: Sink, L: Ledger>(
 {
     core.stands();
     let mut number: u64 = 0;
+    let mut room = [0; PIECE_LIMIT];
     'pieces: loop {
-        match unread.read_piece(source) {
+        match unread.read_piece(source, &mut room) {
             Err(status) => return status,
             Ok(count) => {
                 if count == 0 {
