@@ -7,7 +7,6 @@ mod collection;
 mod copies;
 mod examples;
 mod frames;
-mod rules;
 mod standing;
 
 pub use collection::{
@@ -30,7 +29,6 @@ pub use frames::{
     a_new_object_takes_its_slot, a_sweep_frees_its_slots, a_sweep_leaves_other_slots,
     a_write_changes_one_slot, a_write_leaves_other_pages, views_are_in_order,
 };
-pub use rules::{is_doomed, is_kept_beside, is_timely};
 pub use standing::{
     a_cut_that_runs_through_ends, a_fresh_store_stands, each_event_leaves_what_stands,
     histories_leave_what_stands,

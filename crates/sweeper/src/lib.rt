@@ -1,7 +1,7 @@
 //! Which slots of a closed and marked cut a sweep frees.
 #![tactic(auto)]
 
-ghost use Rattle.std.specs.Prelude.{◌≡◌, ℕ, ◌<◌, ◌≤◌, ◌&&◌, not, false, Some, List, length};
+ghost use Rattle.std.specs.Prelude.{◌≡◌, ℕ, ◌<◌, ◌&&◌, not, Some, List, length};
 ghost use Rattle.object_graph.specs.SlotParts.{SlotParts};
 ghost use Rattle.object_graph.specs.Slots.{has_slot};
 ghost use Rattle.cut_model.specs.CutPages.{settled_image};
@@ -9,8 +9,7 @@ ghost use Rattle.cut_model.specs.Doomed as rule;
 ghost use Rattle.cut_builder.specs.CutParts.{page_of, starts_of, marks_of, HasExactMarks};
 
 use cut_builder::MarkedCut;
-use cut_model::is_doomed;
-use object_graph::{MOST_SLOTS, SlotSet};
+use object_graph::SlotSet;
 
 /// The slots of a page that are in use in its settled image and neither born nor marked: exactly
 /// those of the page's doomed names.
@@ -29,14 +28,7 @@ pub fn doomed(marked: &MarkedCut, page: u32) -> SlotSet
 
 /// The slots that are doomed, by what is in use, born and marked.
 fn doomed_among(used: SlotSet, born: SlotSet, marked: SlotSet) -> SlotSet
-    requires { (slot : ℕ) → MOST_SLOTS ≤ slot → has_slot used slot ≡ false }
     ensures { (slot : ℕ) → has_slot result slot ≡ (has_slot used slot && (not (has_slot born slot) && not (has_slot marked slot))) }
 {
-    let mut slots = SlotSet::empty();
-    for slot in 0..MOST_SLOTS {
-        if is_doomed(used.has(slot), born.has(slot), marked.has(slot)) {
-            slots = slots.with(slot);
-        }
-    }
-    slots
+    used.without(born).without(marked)
 }
