@@ -17,6 +17,7 @@ use cut_builder::ClosedCut;
 use object_graph::{MOST_SLOTS, Name};
 
 /// Whether a name is in use in an image of its page.
+#[inline(always)]
 fn is_in_image(cut: &ClosedCut, name: &Name, which: u32) -> bool
     requires { name.now.page < length cut.now.pages }
     ensures { result ≡ is_in name.now (image_of (page_of cut.now.pages name.now.page) which) }
@@ -28,6 +29,7 @@ fn is_in_image(cut: &ClosedCut, name: &Name, which: u32) -> bool
 }
 
 /// Whether a name is in use in one of the images of its page.
+#[inline(always)]
 fn is_on_page(cut: &ClosedCut, name: &Name) -> bool
     requires { name.now.page < length cut.now.pages }
     ensures { let p = page_of cut.now.pages name.now.page in result ≡ (is_in name.now (image_of p 0) || (is_in name.now (image_of p 1) || is_in name.now (image_of p 2))) }
@@ -42,6 +44,7 @@ fn is_on_page(cut: &ClosedCut, name: &Name) -> bool
 }
 
 /// Whether a name is in use in some image of the cut.
+#[inline(always)]
 pub(crate) fn is_in_use(cut: &ClosedCut, name: &Name) -> bool
     ensures { result ≡ has_object (cut_graph cut.now.pages) name.now }
 {
@@ -52,6 +55,7 @@ pub(crate) fn is_in_use(cut: &ClosedCut, name: &Name) -> bool
 }
 
 /// Adds a place where the list has room.
+#[inline(always)]
 fn add(list: &mut Vec<Place>, page: u32, slot: u16, cut: &ClosedCut)
     requires listed { All (IsListed cut.now) list.old.items }
     requires new { IsListed cut.now (record { page = page; slot = slot }) }
@@ -63,6 +67,7 @@ fn add(list: &mut Vec<Place>, page: u32, slot: u16, cut: &ClosedCut)
 }
 
 /// Whether a place is one of the cut's and marked already.
+#[inline(always)]
 fn is_marked(table: &MarkTable, cut: &ClosedCut, seat: &mut MarkSeat, page: u32, slot: u16) -> bool
     requires cut { table.now.cut ≡ cut.now }
     requires own { IsOf table.now seat.old }
@@ -79,6 +84,7 @@ fn is_marked(table: &MarkTable, cut: &ClosedCut, seat: &mut MarkSeat, page: u32,
 
 /// Marks the target of a reference that is in use in the cut, and lists it where it is new and the
 /// list has room. What is marked already isn't looked for in the images.
+#[inline(always)]
 fn follow(
     table: &MarkTable,
     cut: &ClosedCut,
@@ -109,6 +115,7 @@ fn follow(
 }
 
 /// Marks the targets of references.
+#[inline(always)]
 fn follow_all(
     table: &MarkTable,
     cut: &ClosedCut,

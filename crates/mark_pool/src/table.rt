@@ -70,6 +70,7 @@ impl MarkTable {
 impl MarkSeat {
     /// Marks a place, and says whether it wasn't marked before. The seat with all parts has itself
     /// marked what is marked.
+    #[inline(always)]
     pub fn claim(&mut self, table: &MarkTable, page: u32, slot: u16) -> bool
         requires own { IsOf table.now self.old }
         requires page { page < length table.now.cut.pages }
@@ -89,6 +90,7 @@ impl MarkSeat {
 
     /// Takes a place to scan it, and says whether nobody had taken it. The seat with all parts has
     /// itself taken what was taken.
+    #[inline(always)]
     pub fn take_to_scan(&mut self, table: &MarkTable, page: u32, slot: u16) -> bool
         requires own { IsOf table.now self.old }
         requires page { page < length table.now.cut.pages }
@@ -106,6 +108,7 @@ impl MarkSeat {
     }
 
     /// Says that a place that the seat took is scanned: it has seen all targets of the place marked.
+    #[inline(always)]
     pub fn scanned(&mut self, table: &MarkTable, page: u32, slot: u16)
         requires own { IsOf table.now self.old }
         requires page { page < length table.now.cut.pages }
@@ -123,6 +126,7 @@ impl MarkSeat {
     }
 
     /// The mark word of a page. The seat with all parts has itself marked what is marked.
+    #[inline(always)]
     pub(crate) fn marks(&mut self, table: &MarkTable, page: u32) -> u64
         requires own { IsOf table.now self.old }
         requires page { page < length table.now.cut.pages }

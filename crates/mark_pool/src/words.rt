@@ -6,6 +6,7 @@ ghost use Rattle.object_graph.specs.Slots.{has_slot};
 use object_graph::{MOST_SLOTS, SlotSet};
 
 /// The bit of a slot.
+#[inline(always)]
 pub(crate) fn mask(slot: u16) -> u64
     requires { slot < MOST_SLOTS }
     ensures { result ≡ 2 ^ slot }
@@ -14,6 +15,7 @@ pub(crate) fn mask(slot: u16) -> u64
 }
 
 /// The number of the word of this kind of a page.
+#[inline(always)]
 pub(crate) fn word_of(page: u32, kind: usize) -> usize
     requires { kind < 3 }
     ensures { result ≡ 3 * page + kind }
@@ -22,6 +24,7 @@ pub(crate) fn word_of(page: u32, kind: usize) -> usize
 }
 
 /// Whether the bit of a slot is 0.
+#[inline(always)]
 pub(crate) fn is_clear(word: u64, slot: u16) -> bool
     requires { slot < MOST_SLOTS }
     ensures { result ≡ (bit_at word slot == 0) }
