@@ -46,19 +46,9 @@ impl<'a> Reader<'a> {
         ensures left { self.new ≡ step_of (read short_at self.old) self.old }
     {
         if self.ended || self.stopped {
-            self.stop();
-            return 0;
+            return self.take(None, 0);
         }
-        match short_in(self.left) {
-            Some((number, rest)) => {
-                self.go_to(rest);
-                number
-            }
-            None => {
-                self.stop();
-                0
-            }
-        }
+        self.take(short_in(self.left), 0)
     }
 
     /// A value.
@@ -69,19 +59,9 @@ impl<'a> Reader<'a> {
         ensures left { self.new ≡ step_of (read number_at self.old) self.old }
     {
         if self.ended || self.stopped {
-            self.stop();
-            return 0;
+            return self.take(None, 0);
         }
-        match number_in(self.left) {
-            Some((number, rest)) => {
-                self.go_to(rest);
-                number
-            }
-            None => {
-                self.stop();
-                0
-            }
-        }
+        self.take(number_in(self.left), 0)
     }
 
     /// A count of workers, or a lane.
@@ -92,19 +72,9 @@ impl<'a> Reader<'a> {
         ensures left { self.new ≡ step_of (read few_at self.old) self.old }
     {
         if self.ended || self.stopped {
-            self.stop();
-            return 1;
+            return self.take(None, 1);
         }
-        match few_in(self.left) {
-            Some((number, rest)) => {
-                self.go_to(rest);
-                number
-            }
-            None => {
-                self.stop();
-                1
-            }
-        }
+        self.take(few_in(self.left), 1)
     }
 
     /// A name.
@@ -179,6 +149,26 @@ impl<'a> Reader<'a> {
         Err(BadLine {
             column: before as u32 + 1,
         })
+    }
+
+    // The number that was read where the reader stands, which goes behind it; or else the least, and the
+    // reader stops.
+    #[inline(always)]
+    fn take<T: Drop>(&mut self, found: Option<(T, Option<&'a [u8]>)>, least: T) -> T
+        requires here { IfSome found (λ p. option_map (λ r. r.now) p.1 ≡ (word_at self.old.left).1) }
+        ensures value { result ≡ value_or least (option_map (λ p. p.0) found.entry) }
+        ensures left { self.new ≡ step_of (option_map (λ p. p.0) found.entry) self.old }
+    {
+        match found {
+            Some((number, rest)) => {
+                self.go_to(rest);
+                number
+            }
+            None => {
+                self.stop();
+                least
+            }
+        }
     }
 
     // Goes behind a word.
