@@ -1,41 +1,41 @@
 //! What was done to a disk in memory up to its last sync, kept in contracts alone.
-ghost use Rattle.std.specs.Prelude.{◌≡◌, ◌++◌, ◌∷◌, [], List, ℕ};
-ghost use Rattle.std.specs.Borrow.{ftrue};
-ghost use Rattle.disk_trait.specs.declared.note.Note.{Note};
-ghost use Rattle.disk_trait.specs.declared.note.Note.TheVariants.{Sync};
+ghost use Rattle.std.specs.Prelude.{◌≡◌};
+ghost use Rattle.disk_trait.specs.Notes.{nothing_done, synced_past};
 
 use crate::note::Note;
 use std::marker::Model;
+use told::{Tells, Told};
 
 /// What was done to a disk in memory up to its last sync: its first bytes, and each write and each
-/// sync since then. It takes no bytes.
-#[derive(Drop)]
-pub(crate) struct Past {
-    pub(crate) ghost first: { List ℕ },
-    pub(crate) ghost notes: { List Note },
-}
+/// sync since then. No value of it is made.
+pub(crate) struct Past;
 
 impl Model for Past {
-    ghost also_owns = { λ _. ftrue };
+    ghost use Rattle.std.specs.Prelude.{[]};
+    ghost use Rattle.disk_trait.specs.Notes.{PastParts, nothing_done};
+
+    ghost Value = { PastParts };
+
+    ghost view = { λ _. nothing_done [] };
 }
 
-// It owns nothing.
-unsafe impl Send for Past {}
+/// The bytes of a disk to which nothing was done.
+#[derive(Drop)]
+pub(crate) struct Untouched<'a> {
+    pub(crate) bytes: &'a Vec<u8>,
+}
 
-unsafe impl Sync for Past {}
+impl Tells<Past> for Untouched<'_> {
+    ghost tells = { λ u p. p ≡ nothing_done u.bytes.now.items };
+}
 
-impl Past {
-    // Nothing was done to these bytes.
-    pub(crate) fn none(_first: &Vec<u8>) -> Past
-        ensures { (result.first ≡ _first.now.items) × (result.notes ≡ []) }
-    {
-        Past {}
-    }
+/// A disk whose writes since its last sync are all safe: another sync came.
+#[derive(Drop)]
+pub(crate) struct Synced<'a, 'b> {
+    pub(crate) past: &'a Told<Past>,
+    pub(crate) writes: &'b Vec<Note>,
+}
 
-    // These writes came then, and a sync.
-    pub(crate) fn synced(&self, _writes: &Vec<Note>) -> Past
-        ensures { (result.first ≡ self.now.first) × (result.notes ≡ self.now.notes ++ _writes.now.items ++ Sync ∷ []) }
-    {
-        Past {}
-    }
+impl Tells<Past> for Synced<'_, '_> {
+    ghost tells = { λ s p. p ≡ synced_past s.past.now.value s.writes.now.items };
 }
