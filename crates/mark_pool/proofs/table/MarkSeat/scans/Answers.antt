@@ -1,29 +1,20 @@
 use Rattle.std.proofs.Common.{◌≡◌, ℕ, ◌<◌, [], sym, ◌∙◌, subst, arith}
-use mathlib.Core.Option.{none}
 use Rattle.std.specs.Int.{bit_at}
-use Rattle.atomic_table.specs.Table.{step, Allows}
 use Rattle.mark_pool.specs.declared.place.Place.{Place}
 use Rattle.mark_pool.specs.Edges.{IsEdge}
-use Rattle.mark_pool.specs.Marks.{Ruled, saw_scanned, times, all_parts}
+use Rattle.mark_pool.specs.Marks.{saw_scanned, times, all_parts}
 use Rattle.mark_pool.specs.Seats.{Made, Known, known}
 use Rattle.mark_pool.proofs.Keeps.{looks_scanned}
-use Rattle.mark_pool.proofs.Seated.{at_table, in_cut}
+use Rattle.mark_pool.proofs.Seated.{at_table, may_load}
 use Rattle.mark_pool.proofs.table.MarkSeat.scans.Goals as goal
 
 pub load-requires : goal.load-requires
 load-requires c =
     let words = c.table.inside.board.shared in
-    let cut = words.key.value in
     let stand = c.self.inside.stand in
-    let on = at_table words.table_id cut c.args.table.now stand.table_id stand.me.0 c.args.self.now c.table.view_is c.self.view_is c.requires.own in
-    let page = in_cut words.table_id cut c.args.table.now c.args.page c.table.view_is c.requires.page in
-    let is = c.word_of-word.ensures in
-    let wide = c.table.invariant.0 in (
-      on.0,
-      omega (arith, is, wide, page),
-      subst (λ (z : ℕ). Allows (Ruled cut) words.table_id.slots stand.id stand.me z (λ n. n) (saw_scanned (step words.table_id.slots z 0 0 none) stand.me)) (sym is)
-          (looks_scanned cut words.table_id.slots stand.id c.args.page stand.me c.self.invariant.1),
-    )
+    let allowed = looks_scanned words.key.value words.table_id.slots stand.id c.args.page stand.me c.self.invariant.1 in
+    may_load words.table_id words.key.value c.args.table.now stand.table_id stand.me c.args.self.now stand.id c.args.page c.word_of-word.result 2 saw_scanned
+        c.table.view_is c.self.view_is c.requires.own c.requires.page c.word_of-word.ensures (omega arith) c.table.invariant.0 allowed
 
 pub invariant_of-self : goal.invariant_of-self
 invariant_of-self c =
