@@ -1,13 +1,11 @@
 //! Opening a store.
-ghost use Rattle.std.specs.Prelude.{◌≡◌, ◌≤◌, ◌+◌, ℕ, List, None, Err, IfOk, IfSome, IsErrOf, OnOk, length};
+ghost use Rattle.std.specs.Prelude.{◌≡◌, ◌≤◌, ℕ, List, Err, IfOk, IfSome, IsErrOf, OnOk};
 ghost use Rattle.disk_trait.specs.Causes.{Rose};
 ghost use Rattle.disk_trait.specs.Disk.{IsSynced};
 ghost use Rattle.disk_trait.specs.DiskFacts.{LeavesOnly, OnlyReads};
-ghost use Rattle.redo_journal.specs.Homes.{store_size};
-ghost use Rattle.image_model.specs.Opening.{not_a_store, damaged, page_slots};
-ghost use Rattle.image_model.specs.Stores.{IsStore, ArePages, IsRooted, HasFault};
-ghost use Rattle.image_model.specs.Stands.{IsStoreOf};
-ghost use Rattle.recovery.specs.Opened.{held_by};
+ghost use Rattle.image_model.specs.Opening.{not_a_store, damaged};
+ghost use Rattle.image_model.specs.Stores.{HasFault};
+ghost use Rattle.recovery.specs.Opened.{IsOpenedOn, IsOpenedFrom};
 
 use crate::check::check_pages;
 use crate::faults::{OpenFault, PagesFault, SuperFault};
@@ -68,13 +66,8 @@ fn of_pages(fault: PagesFault) -> OpenFault
 
 /// Reads what the disk holds, whose images and content stay.
 fn read_store<D: Disk>(alloc: Global, disk: &mut D) -> Result<Opened, OpenFault>
-    ensures pages { IfOk result (λ x. ArePages x.pages.items) }
-    ensures rooted { IfOk result (λ x. IsRooted (page_slots x.pages.items)) }
-    ensures journal { IfOk result (λ x. (x.journal.pages ≡ length x.pages.items) × (x.journal.staged ≡ None)) }
-    ensures counted { IfOk result (λ x. x.commits ≡ x.journal.base + x.journal.commits) }
-    ensures long { IfOk result (λ x. store_size (length x.pages.items) ≤ D.size disk.old) }
-    ensures store { IfOk result (λ x. IfSome (D.content disk.old) (λ c. IsStore c (held_by x))) }
-    ensures own { IfOk result (λ x. IfSome (D.content disk.old) (IsStoreOf x.journal)) }
+    ensures opened { IfOk result (IsOpenedOn (D.size disk.old)) }
+    ensures found { IfOk result (IsOpenedFrom (D.content disk.old)) }
     ensures none { IsErrOf result OpenFault.NotAStore → IfSome (D.content disk.old) (λ c. HasFault c not_a_store) }
     ensures bad { (at : ℕ) → result ≡ Err (OpenFault.Damaged at) → IfSome (D.content disk.old) (λ c. HasFault c (damaged at)) }
     ensures fault { IsErrOf result OpenFault.DiskFault → Rose (D.fault_count disk.old) (D.fault_count disk.new) }
@@ -108,16 +101,9 @@ fn read_store<D: Disk>(alloc: Global, disk: &mut D) -> Result<Opened, OpenFault>
 
 /// Opens the store on a disk, after a sync. It writes nothing (FORMATS.md, "Opening").
 pub fn open_store<D: Disk>(alloc: Global, disk: &mut D) -> Result<Opened, OpenFault>
-    // Whatever the disk tells.
-    ensures pages { IfOk result (λ x. ArePages x.pages.items) }
-    ensures rooted { IfOk result (λ x. IsRooted (page_slots x.pages.items)) }
-    ensures journal { IfOk result (λ x. (x.journal.pages ≡ length x.pages.items) × (x.journal.staged ≡ None)) }
-    ensures counted { IfOk result (λ x. x.commits ≡ x.journal.base + x.journal.commits) }
-    ensures long { IfOk result (λ x. store_size (length x.pages.items) ≤ D.size disk.old) }
-
-    // What the disk holds, or what is wrong with it.
-    ensures store { IfOk result (λ x. IfSome (D.content disk.old) (λ c. IsStore c (held_by x))) }
-    ensures own { IfOk result (λ x. IfSome (D.content disk.old) (IsStoreOf x.journal)) }
+    // What was opened, what the disk holds, or what is wrong with it.
+    ensures opened { IfOk result (IsOpenedOn (D.size disk.old)) }
+    ensures found { IfOk result (IsOpenedFrom (D.content disk.old)) }
     ensures none { IsErrOf result OpenFault.NotAStore → IfSome (D.content disk.old) (λ c. HasFault c not_a_store) }
     ensures bad { (at : ℕ) → result ≡ Err (OpenFault.Damaged at) → IfSome (D.content disk.old) (λ c. HasFault c (damaged at)) }
     ensures fault { IsErrOf result OpenFault.DiskFault → Rose (D.fault_count disk.old) (D.fault_count disk.new) }

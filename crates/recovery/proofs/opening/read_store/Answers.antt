@@ -17,7 +17,7 @@ use Rattle.recovery.specs.declared.faults.SuperFault.{SuperFault}
 use Rattle.recovery.specs.declared.faults.PagesFault.{PagesFault}
 use Rattle.recovery.proofs.Contents.{if_known}
 use Rattle.recovery.proofs.ReadPages.{handed}
-use Rattle.recovery.proofs.OpenedStores.{IsReadFrom, pages_length, are_pages, opens_to, home_wrong, record_wrong, pages_wrong}
+use Rattle.recovery.proofs.OpenedStores.{IsReadFrom, own_store, is_opened_from, pages_length, are_pages, opens_to, home_wrong, record_wrong, pages_wrong}
 use Rattle.recovery.proofs.opening.read_store.Goals as goal
 
 -- a fault is of this place
@@ -74,16 +74,6 @@ pub check_pages-requires : goal.check_pages-requires
 check_pages-requires g c =
     subst ArePages (sym c.deref-2.ensures.value) (are_pages c.in_ok-pages.pages.items c.in-Ok.found.pages c.in-Ok.ensures.pages c.in_ok-pages.ensures.numbered)
 
-pub returns-clause-pages : goal.returns-clause-pages
-returns-clause-pages g c = are_pages c.in_ok-pages.pages.items c.in-Ok.found.pages c.in-Ok.ensures.pages c.in_ok-pages.ensures.numbered
-
-pub returns-clause-journal : goal.returns-clause-journal
-returns-clause-journal g c =
-    (c.in-Ok-open_area.ensures.asked.1 ∙ sym (pages_length c.in_ok-pages.pages.items c.in-Ok.found.pages c.in_ok-pages.ensures.numbered), c.in-Ok-open_area.ensures.asked.2)
-
-pub returns-clause-long : goal.returns-clause-long
-returns-clause-long g c = omega (arith, pages_length c.in_ok-pages.pages.items c.in-Ok.found.pages c.in_ok-pages.ensures.numbered, c.in-Ok.ensures.long)
-
 pub returns-in-Err-check_pages-clause-bad : goal.returns-in-Err-check_pages-clause-bad
 returns-in-Err-check_pages-clause-bad g c at e =
     let is : c.of_pages.result ≡ Damaged at = cc e in
@@ -99,19 +89,34 @@ returns-in-Err-check_pages-clause-bad g c at e =
     (in_some (g.D.Disk.content c.open_area.new.disk) _ file after c.in_ok-pages.ensures.read) refl)
     (subst (λ (l : List PageParts). HasFaultAt (page_slots l) at) c.deref-2.ensures.value (c.in-Err-check_pages.ensures.damaged at (ap (λ (x : PagesFault). Err x) fault))))
 
-pub returns-clause-store : goal.returns-clause-store
-returns-clause-store g c =
-    if_known _ (g.D.Disk.content c.args.disk.now) (λ file told.
+pub returns-clause-opened : goal.returns-clause-opened
+returns-clause-opened g c =
+    let numbered = c.in_ok-pages.ensures.numbered in
+    let asked = c.in-Ok-open_area.ensures.asked in
+    record {
+      pages = are_pages c.in_ok-pages.pages.items c.in-Ok.found.pages c.in-Ok.ensures.pages numbered;
+      rooted = subst (λ (l : List PageParts). IsRooted (page_slots l)) c.deref-2.ensures.value c.in-Ok-check_pages.ensures.rooted;
+      journal = asked.1 ∙ sym (pages_length c.in_ok-pages.pages.items c.in-Ok.found.pages numbered);
+      staged = asked.2;
+      counted = ap (λ (n : ℕ). n + c.commits.result) c.base.ensures ∙ ap (λ (n : ℕ). c.in-Ok-open_area.opened.0.base + n) c.commits.ensures.value;
+      long = omega (arith, pages_length c.in_ok-pages.pages.items c.in-Ok.found.pages numbered, c.in-Ok.ensures.long);
+    }
+
+pub returns-clause-found : goal.returns-clause-found
+returns-clause-found g c =
+    is_opened_from (g.D.Disk.content c.args.disk.now) _ (λ file told.
     let now : g.D.Disk.content c.read_super.new.disk ≡ Some file = c.read_super.ensures.reads.content ∙ told in
     let after : g.D.Disk.content c.open_area.new.disk ≡ Some file = c.open_area.ensures.reads.content ∙ now in
     let found = in_some (g.D.Disk.content c.read_super.new.disk) _ file now c.in-Ok-open_area.ensures.found in
     let h = read_from c.in-Ok.found.pages c.in-Ok.found.area c.in-Ok-open_area.opened.0 c.in-Ok-open_area.opened.1 file (in_some (g.D.Disk.content c.args.disk.now) _ file told c.in-Ok.ensures.found)
-    (long_enough _ (g.D.Disk.size c.args.disk.now) file c.in-Ok.ensures.long (g.met.D.Disk.told_whole c.args.disk.now file told)) c.in-Ok-open_area.ensures.asked.1 c.in-Ok-open_area.ensures.asked.0 found in
-    record {
-      opens = opens_to c.in-Ok.found.pages c.in-Ok.found.area c.in-Ok-open_area.opened.0 c.in-Ok-open_area.opened.1 file h c.deref.result.now c.in_ok-pages.pages.items _ c.deref.ensures.value
-          (in_some (g.D.Disk.content c.open_area.new.disk) _ file after c.in_ok-pages.ensures.read) (ap (λ (n : ℕ). n + c.commits.result) c.base.ensures ∙ ap (λ (n : ℕ). c.in-Ok-open_area.opened.0.base + n) c.commits.ensures.value);
-      rooted = subst (λ (l : List PageParts). IsRooted (page_slots l)) c.deref-2.ensures.value c.in-Ok-check_pages.ensures.rooted;
-    })
+    (long_enough _ (g.D.Disk.size c.args.disk.now) file c.in-Ok.ensures.long (g.met.D.Disk.told_whole c.args.disk.now file told)) c.in-Ok-open_area.ensures.asked.1 c.in-Ok-open_area.ensures.asked.0 found in (
+      record {
+        opens = opens_to c.in-Ok.found.pages c.in-Ok.found.area c.in-Ok-open_area.opened.0 c.in-Ok-open_area.opened.1 file h c.deref.result.now c.in_ok-pages.pages.items _ c.deref.ensures.value
+            (in_some (g.D.Disk.content c.open_area.new.disk) _ file after c.in_ok-pages.ensures.read) (ap (λ (n : ℕ). n + c.commits.result) c.base.ensures ∙ ap (λ (n : ℕ). c.in-Ok-open_area.opened.0.base + n) c.commits.ensures.value);
+        rooted = subst (λ (l : List PageParts). IsRooted (page_slots l)) c.deref-2.ensures.value c.in-Ok-check_pages.ensures.rooted;
+      },
+      own_store c.in-Ok.found.pages c.in-Ok.found.area c.in-Ok-open_area.opened.0 c.in-Ok-open_area.opened.1 file h,
+    ))
 
 pub read_pages-requires-clause-images : goal.read_pages-requires-clause-images
 read_pages-requires-clause-images g c =

@@ -23,25 +23,25 @@ returns-in-Err-clause-bad g c = λ at is.
 pub returns-then-len-pages-clause-none : goal.returns-then-len-pages-clause-none
 returns-then-len-pages-clause-none g c = λ is.
     none_of (g.D.Disk.content c.args.self.now.disk) (λ file told.
-    let same = pages_told g.D.Disk g.met.D.Disk.honest c.args.self.now c.args.told.now.value (held_by c.in-Ok.found) file c.requires told c.in-Ok.ensures.store in
+    let same = pages_told g.D.Disk g.met.D.Disk.honest c.args.self.now c.args.told.now.value (held_by c.in-Ok.found) file c.requires told c.in-Ok.ensures.found.store in
     c.if-len-pages.true (c.len.ensures ∙ (c.in-Ok.found.pages.ok.0 ∙ (same ∙ sym c.pages.ensures))))
 
 pub by-next-requires : goal.by-next-requires
 by-next-requires g c =
     by_what_is_found _ c.args.told.now.value (held_by c.in-Ok.found)
     (finds_told g.D.Disk g.met.D.Disk.honest c.args.self.now c.args.told.now.value (held_by c.in-Ok.found) c.open_store.new.disk c.requires
-    c.open_store.ensures.content c.in-Ok.ensures.store)
+    c.open_store.ensures.content c.in-Ok.ensures.found.store)
 
 pub new-requires-clause-numbered : goal.new-requires-clause-numbered
-new-requires-clause-numbered g c = numbered c.in-Ok.found.pages.items c.in-Ok.ensures.pages.numbered
+new-requires-clause-numbered g c = numbered c.in-Ok.found.pages.items c.in-Ok.ensures.opened.pages.numbered
 
 pub returns-in-Ok-new-clause-taken : goal.returns-in-Ok-new-clause-taken
 returns-in-Ok-new-clause-taken g c =
     taken_stands g.D.Disk c.args.self.now
     (record { transactions = c.in-Ok-new.transactions; journal = c.in-Ok.found.journal; disk = c.open_store.new.disk; commits = c.in-Ok.found.commits; broken = None })
     (held_by c.in-Ok.found) c.args.told.now.value c.by-next.result.value c.by-next.ensures c.requires (c.in-Ok-new.ensures.ready c.in-Ok.found.commits) refl refl
-    c.in-Ok.ensures.journal.0 (sym c.in-Ok.found.pages.ok.0 ∙ (sym c.len.ensures ∙ (c.if-len-pages.false ∙ (c.pages.ensures ∙ c.requires.transactions.frames.count)))) c.in-Ok.ensures.counted c.in-Ok.ensures.long c.open_store.ensures.size c.open_store.ensures.content
-    c.in-Ok.ensures.store c.in-Ok.ensures.own c.in-Ok.ensures.synced
+    c.in-Ok.ensures.opened.journal (sym c.in-Ok.found.pages.ok.0 ∙ (sym c.len.ensures ∙ (c.if-len-pages.false ∙ (c.pages.ensures ∙ c.requires.transactions.frames.count)))) c.in-Ok.ensures.opened.counted c.in-Ok.ensures.opened.long c.open_store.ensures.size c.open_store.ensures.content
+    c.in-Ok.ensures.found.store c.in-Ok.ensures.found.own c.in-Ok.ensures.synced
 
 pub returns-in-Ok-new-clause-anew : goal.returns-in-Ok-new-clause-anew
 returns-in-Ok-new-clause-anew g c = λ silent. record {
