@@ -1,2 +1,2 @@
 mod Keeps
-mod Young
+pub mod Young

@@ -8,4 +8,3 @@ mod Seats
 mod Unscanned
 mod Claims
 mod Answered
-mod Young

@@ -4,4 +4,3 @@ pub mod Seats
 pub mod Walks
 pub mod Unscanned
 pub mod Jobs
-pub mod Young

@@ -2,7 +2,7 @@
 mod young;
 
 ghost use Rattle.std.specs.Prelude.{◌≡◌, ◌<◌, ◌≤◌};
-ghost use Rattle.mark_pool.specs.Young.{IsYoungCut};
+ghost use Rattle.cut_builder.specs.Young.{IsYoungCut};
 
 use crate::tests::young::{add, add_after, start};
 use crate::{MarkFault, mark};
@@ -48,8 +48,8 @@ fn copy_of(current: Page, before: Option<Page>) -> PageCopy {
 
 /// Adds a page as it stands, without uncommitted writes.
 fn add_clean(cut: &mut Cut, pages: u32, page: &Page)
-    requires { IsYoungCut cut.old pages }
-    ensures { IsYoungCut cut.new pages }
+    requires { IsYoungCut cut.old pages 0 }
+    ensures { IsYoungCut cut.new pages 0 }
 {
     add(cut, pages, &copy_of(*page, None));
 }

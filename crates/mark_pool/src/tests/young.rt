@@ -1,7 +1,7 @@
 //! Cuts all of whose objects are the first of their slots, so that no place gets a second name.
 ghost use Rattle.std.specs.Prelude.{◌≡◌, ◌<◌, ◌≤◌, true, length, IfOk, IfSome};
 ghost use Rattle.page_image.specs.Pages.{slot_at};
-ghost use Rattle.mark_pool.specs.Young.{IsYoung, IsYoungCopy, IsYoungCut};
+ghost use Rattle.cut_builder.specs.Young.{IsYoung, IsYoungCopy, IsYoungCut};
 
 use cut_builder::Cut;
 use object_graph::{MOST_PAGES, Memory, SLOTS_PER_PAGE};
@@ -38,7 +38,7 @@ fn is_young_before(copy: &PageCopy) -> bool
 }
 
 fn is_young_copy(copy: &PageCopy) -> bool
-    ensures { result ≡ true → IsYoungCopy copy.now }
+    ensures { result ≡ true → IsYoungCopy copy.now 0 }
 {
     copy.moment == 0
         && copy.current.number() == copy.page
@@ -46,19 +46,20 @@ fn is_young_copy(copy: &PageCopy) -> bool
         && is_young_before(copy)
 }
 
-/// A cut of so many pages.
+/// A cut of so many pages before the first commit.
 pub(crate) fn start(alloc: Global, pages: u32) -> Result<Cut, Memory>
     requires some { 0 < pages }
     requires few { pages ≤ MOST_PAGES }
-    ensures { IfOk result (λ cut. IsYoungCut cut pages) }
+    ensures { IfOk result (λ cut. IsYoungCut cut pages 0) }
 {
-    Cut::start(alloc, pages, 1, 0)
+    let cut = Cut::start(alloc, pages, 1, 0)?;
+    Ok(cut)
 }
 
 /// Adds a copy, if it can be added.
 pub(crate) fn add(cut: &mut Cut, pages: u32, copy: &PageCopy)
-    requires { IsYoungCut cut.old pages }
-    ensures { IsYoungCut cut.new pages }
+    requires { IsYoungCut cut.old pages 0 }
+    ensures { IsYoungCut cut.new pages 0 }
 {
     if copy.page < pages && !cut.is_copied(copy.page) && is_young_copy(copy) {
         cut.add_copy(copy);
@@ -67,7 +68,7 @@ pub(crate) fn add(cut: &mut Cut, pages: u32, copy: &PageCopy)
 
 /// Adds the image of a page after the first commit, if it can be added.
 pub(crate) fn add_after(cut: &mut Cut, pages: u32, image: &Page)
-    requires { IsYoungCut cut.old pages }
+    requires { IsYoungCut cut.old pages 0 }
 {
     if image.number() < pages && is_young(image) {
         cut.add_after(image, 1);

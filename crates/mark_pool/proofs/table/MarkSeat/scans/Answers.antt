@@ -14,7 +14,7 @@ load-requires c =
     let stand = c.self.inside.stand in
     let allowed = looks_scanned words.key.value words.table_id.slots stand.id c.args.page stand.me c.self.invariant.1 in
     may_load words.table_id words.key.value c.args.table.now stand.table_id stand.me c.args.self.now stand.id c.args.page c.word_of-word.result 2 saw_scanned
-        c.table.view_is c.self.view_is c.requires.own c.requires.page c.word_of-word.ensures (omega arith) c.table.invariant.0 allowed
+    c.table.view_is c.self.view_is c.requires.own c.requires.page c.word_of-word.ensures (omega arith) c.table.invariant.0 allowed
 
 pub invariant_of-self : goal.invariant_of-self
 invariant_of-self c =
