@@ -1,11 +1,9 @@
 //! Copies while a cut is copied, of whatever ages.
 ghost use Rattle.std.specs.Prelude.{◌≡◌, ℕ, ◌<◌, false, List, length, replicate, slice_index_or, slice_set};
-ghost use Rattle.object_graph.specs.declared.calls.Call.{Call as AnyCall};
-ghost use Rattle.object_graph.specs.declared.calls.Reply.{Reply as AnyReply};
 ghost use Rattle.object_graph.specs.Members.{In};
-ghost use Rattle.store_model.specs.Worlds.{World, Transaction, Opening, Note};
-ghost use Rattle.store_model.specs.Replies.{AllowsReply};
-ghost use Rattle.store_model.specs.Steps.{after_reply, opening_of};
+ghost use Rattle.store_model.specs.Worlds.{World, Event, Transaction, Opening};
+ghost use Rattle.store_model.specs.Replies.{Allows};
+ghost use Rattle.store_model.specs.Steps.{next, opening_of};
 ghost use Rattle.store_model.specs.Lawful.{IsOrderly};
 ghost use Rattle.store_model.specs.States.{State, state_of, state_after};
 ghost use Rattle.cut_model.specs.States.{KeepsOpening};
@@ -29,12 +27,11 @@ pub fn a_frame_is_a_fit_copy()
 /// A fit copy stays fit while the cut is copied, where each commit gives an after-image of each page
 /// that it wrote.
 pub fn a_fit_copy_stays_fit()
-    ensures { (w : World) (opening : Opening) (call : AnyCall) (note : Note) (reply : AnyReply)
-        (pages after : List CutPage) (page : ℕ) (c : CopyParts) → IsOrderly w
-        → page < length pages → AllowsReply w call note reply → ends_copying call ≡ false
-        → Changes w opening call reply pages after → GivesImages w call reply after
+    ensures { (w : World) (opening : Opening) (e : Event) (pages after : List CutPage) (page : ℕ) (c : CopyParts)
+        → IsOrderly w → page < length pages → Allows w e → ends_copying e.entry.call ≡ false
+        → Changes w opening e.entry.call e.entry.reply pages after → GivesImages w e.entry.call e.entry.reply after
         → IsFit (state_of w) opening page (slice_index_or pages page bare_page) c
-        → IsFit (state_of (after_reply w call note reply)) opening page (slice_index_or after page bare_page) c }
+        → IsFit (state_of (next w e)) opening page (slice_index_or after page bare_page) c }
 {}
 
 /// A fit copy of a page keeps the cut sound.
@@ -55,16 +52,15 @@ pub fn a_commit_keeps_the_cut_sound()
 
 /// Each allowed event keeps a cut sound while it is copied.
 pub fn each_event_keeps_the_cut_sound()
-    ensures { (w : World) (opening : Opening) (call : AnyCall) (note : Note) (reply : AnyReply)
-        (pages after : List CutPage) → IsOrderly w → KeepsOpening w opening
-        → AllowsReply w call note reply → ends_copying call ≡ false → Changes w opening call reply pages after
-        → IsSound (state_of w) opening pages → IsSound (state_of (after_reply w call note reply)) opening after }
+    ensures { (w : World) (opening : Opening) (e : Event) (pages after : List CutPage) → IsOrderly w
+        → KeepsOpening w opening → Allows w e → ends_copying e.entry.call ≡ false
+        → Changes w opening e.entry.call e.entry.reply pages after
+        → IsSound (state_of w) opening pages → IsSound (state_of (next w e)) opening after }
 {}
 
 /// It also keeps what the world keeps of the opening: what was lost stays out of reach, and each place
 /// keeps its name.
 pub fn each_event_keeps_the_opening()
-    ensures { (w : World) (opening : Opening) (call : AnyCall) (note : Note) (reply : AnyReply) → IsOrderly w
-        → AllowsReply w call note reply → ends_copying call ≡ false
-        → KeepsOpening w opening → KeepsOpening (after_reply w call note reply) opening }
+    ensures { (w : World) (opening : Opening) (e : Event) → IsOrderly w → Allows w e
+        → ends_copying e.entry.call ≡ false → KeepsOpening w opening → KeepsOpening (next w e) opening }
 {}
