@@ -1,2 +1,3 @@
 mod Keeps
-pub mod Young
+mod Seating
+mod Young

@@ -18,7 +18,7 @@ use Rattle.store_model.proofs.Flats.{in_flat, in_objects_of}
 use Rattle.page_image.specs.Slots.{fresh_slot}
 use Rattle.page_image.specs.Pages.{PageParts}
 use Rattle.page_image.specs.declared.page_copy.PageCopy.{PageCopy}
-use Rattle.cut_model.specs.CutPages.{CopyParts, AfterImage, CutPage, bare_page, images_of, images_of_after, images_of_copy, images_of_before, objects_on, kept_beside, with_copy, with_commit, cut_graph}
+use Rattle.cut_model.specs.CutPages.{CopyParts, AfterImage, CutPage, bare_page, images_of, images_of_after, images_of_copy, images_of_before, objects_on, kept_beside, with_copy, with_commit, with_born, cut_graph}
 use Rattle.cut_model.proofs.Openings.{get-replicate_same}
 use Rattle.cut_builder.specs.CutParts.{CutParts, page_of, with_page, copied_of, HasOneNameEach, IsLater}
 use Rattle.cut_builder.specs.Young.{IsYoung, AreYoung, IsYoungCut, IsYoungCopy}
@@ -113,6 +113,17 @@ copied_young cut pages commits c within is young = record {
   early = replaced_early cut.pages c.page (commits + 1) (with_copy (copied_of c) (page_of cut.pages c.page)) within is.early
       (subst (λ m. m < commits + 1) (sym young.moment) (omega arith), early_change c.moment (commits + 1) (page_of cut.pages c.page).after (is.early c.page).1);
 }
+
+-- slots in which objects were made are added
+pub born_young : (cut : CutParts) (pages commits page born : ℕ) → page < length cut.pages → IsYoungCut cut pages commits
+    → IsYoungCut (with_page cut page (with_born born (page_of cut.pages page))) pages commits
+born_young cut pages commits page born within is =
+    let p : CutPage = with_born born (page_of cut.pages page) in record {
+      count = length-set cut.pages page p ∙ is.count;
+      started = is.started;
+      young = replaced cut.pages page p within is.young (is.young.each page);
+      early = replaced_early cut.pages page (commits + 1) p within is.early (is.early page);
+    }
 
 young_after : (pages : List CutPage) (page moment born : ℕ) (after : List SlotParts) → page < length pages → AreYoung pages → IsYoung after
     → AreYoung (set pages page (with_commit after moment born (page_of pages page)))

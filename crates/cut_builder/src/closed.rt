@@ -4,9 +4,9 @@ ghost use Rattle.std.specs.Option.{option_copied};
 ghost use Rattle.cut_model.specs.CutPages.{settled_image};
 ghost use Rattle.cut_model.specs.Doomed.{AreMarks};
 ghost use Rattle.cut_builder.specs.CutParts.{page_of, image_of, as_page, starts_of, marks_of, HasOneNameEach, AreCopied};
-ghost use Rattle.cut_builder.specs.Kept.{cut_pages_of, AreClosed};
+ghost use Rattle.cut_builder.specs.Kept.{AreClosed};
 
-use crate::kept::KeptPage;
+use crate::kept::KeptPages;
 use crate::marked::MarkedCut;
 use object_graph::{MOST_PAGES, SlotSet};
 use page_image::Page;
@@ -16,24 +16,24 @@ use std::marker::Model;
 #[derive(Drop)]
 pub struct ClosedCut {
     number: u64,
-    pages: Vec<KeptPage>,
+    pages: KeptPages,
 }
 
 impl Model for ClosedCut {
     ghost use Rattle.cut_builder.specs.CutParts.{ClosedParts};
-    ghost use Rattle.cut_builder.specs.Kept.{cut_pages_of, AreClosed};
+    ghost use Rattle.cut_builder.specs.Kept.{AreClosed};
 
     ghost Value = { ClosedParts };
 
-    ghost view = { λ c. record { number = c.number; pages = cut_pages_of c.pages.items } };
+    ghost view = { λ c. record { number = c.number; pages = c.pages } };
 
-    ghost invariant = { λ c. AreClosed c.pages.items };
+    ghost invariant = { λ c. AreClosed c.pages };
 }
 
 impl ClosedCut {
-    pub(crate) fn of(number: u64, pages: Vec<KeptPage>) -> ClosedCut
-        requires { AreClosed pages.items }
-        ensures { result ≡ record { number = number; pages = cut_pages_of pages.items } }
+    pub(crate) fn of(number: u64, pages: KeptPages) -> ClosedCut
+        requires { AreClosed pages }
+        ensures { result ≡ record { number = number; pages = pages } }
     {
         ClosedCut { number, pages }
     }
@@ -56,39 +56,41 @@ impl ClosedCut {
     }
 
     /// How many pages it has.
+    #[inline(always)]
     pub fn pages(&self) -> u32
         ensures count { result ≡ length self.now.pages }
         ensures some { 0 < result }
         ensures few { result ≤ MOST_PAGES }
     {
-        self.pages.len() as u32
+        self.pages.count()
     }
 
     /// An image of a page, if it has it: 0 the current one, 1 the one before, 2 the one after.
+    #[inline(always)]
     pub fn image(&self, page: u32, which: u32) -> Option<&Page>
         requires { page < length self.now.pages }
         ensures { option_copied result ≡ option_map (as_page page) (image_of (page_of self.now.pages page) which) }
     {
-        let page = &self.pages[page as usize];
-        page.image(which)
+        self.pages.image(page, which)
     }
 
     /// The image of a page that was committed as the cut closed.
+    #[inline(always)]
     pub fn settled(&self, page: u32) -> &Page
         requires { page < length self.now.pages }
         ensures image { settled_image (page_of self.now.pages page) ≡ Some result.now.slots }
         ensures number { result.now.number ≡ page }
     {
-        let page = &self.pages[page as usize];
-        page.settled()
+        self.pages.settled(page)
     }
 
     /// The slots of a page in which objects were made since the cut opened.
+    #[inline(always)]
     pub fn born(&self, page: u32) -> SlotSet
         requires { page < length self.now.pages }
         ensures { result ≡ (page_of self.now.pages page).born }
     {
-        self.pages[page as usize].born()
+        self.pages.born(page)
     }
 
     /// The cut with its marks, a set for each page.

@@ -4,10 +4,9 @@ ghost use Rattle.std.specs.Option.{is_some};
 ghost use Rattle.object_graph.specs.Slots.{has_slot};
 ghost use Rattle.cut_model.specs.CutPages.{bare_page, with_copy, with_commit, with_born};
 ghost use Rattle.cut_builder.specs.CutParts.{page_of, with_page, copied_of, IsOfItsPage, HasOneNameEach, IsLater, AreCopied, IsFirstUncopied};
-ghost use Rattle.cut_builder.specs.Kept.{cut_pages_of, AreKept};
 
 use crate::closed::ClosedCut;
-use crate::kept::{KeptPage, bare_pages};
+use crate::kept::KeptPages;
 use object_graph::{MOST_PAGES, Memory, SlotSet};
 use page_image::{Page, PageCopy};
 use std::alloc::Global;
@@ -19,18 +18,18 @@ use std::marker::Model;
 pub struct Cut {
     number: u64,
     start: u64,
-    pages: Vec<KeptPage>,
+    pages: KeptPages,
 }
 
 impl Model for Cut {
     ghost use Rattle.cut_builder.specs.CutParts.{CutParts};
-    ghost use Rattle.cut_builder.specs.Kept.{cut_pages_of, AreKept};
+    ghost use Rattle.cut_builder.specs.Kept.{AreKept};
 
     ghost Value = { CutParts };
 
-    ghost view = { λ c. record { number = c.number; start = c.start; pages = cut_pages_of c.pages.items } };
+    ghost view = { λ c. record { number = c.number; start = c.start; pages = c.pages } };
 
-    ghost invariant = { λ c. AreKept c.pages.items };
+    ghost invariant = { λ c. AreKept c.pages };
 }
 
 /// The least page that has no copy yet.
@@ -47,7 +46,7 @@ impl Cut {
         requires few { pages ≤ MOST_PAGES }
         ensures { IfOk result (λ cut. cut ≡ record { number = number; start = moment; pages = replicate pages bare_page }) }
     {
-        let pages = bare_pages(alloc, pages as usize)?;
+        let pages = KeptPages::start(alloc, pages as usize)?;
         Ok(Cut {
             number,
             start: moment,
@@ -74,8 +73,7 @@ impl Cut {
         requires names { HasOneNameEach (with_page self.old copy.now.page (with_copy (copied_of copy.now) (page_of self.old.pages copy.now.page))).pages }
         ensures { self.new ≡ with_page self.old copy.now.page (with_copy (copied_of copy.now) (page_of self.old.pages copy.now.page)) }
     {
-        let page = &mut self.pages[copy.page as usize];
-        page.add_copy(copy);
+        self.pages.add_copy(copy);
     }
 
     /// Whether the page has a copy.
@@ -83,7 +81,7 @@ impl Cut {
         requires { page < length self.now.pages }
         ensures { result ≡ is_some (page_of self.now.pages page).copy }
     {
-        self.pages[page as usize].is_copied()
+        self.pages.is_copied(page)
     }
 
     /// Adds the image of a page after the commit of this number. It takes the place of an earlier
@@ -94,9 +92,7 @@ impl Cut {
         requires names { let p = page_of self.old.pages image.now.number in HasOneNameEach (with_page self.old image.now.number (with_commit image.now.slots moment p.born p)).pages }
         ensures { let p = page_of self.old.pages image.now.number in self.new ≡ with_page self.old image.now.number (with_commit image.now.slots moment p.born p) }
     {
-        let number = image.number() as usize;
-        let page = &mut self.pages[number];
-        page.add_after(image, moment);
+        self.pages.add_after(image, moment);
     }
 
     /// Adds slots of a page in which objects were made since the cut opened.
@@ -105,8 +101,7 @@ impl Cut {
         ensures cut { self.new ≡ with_page self.old page (with_born (page_of self.new.pages page).born (page_of self.old.pages page)) }
         ensures born { (s : ℕ) → has_slot (page_of self.new.pages page).born s ≡ (has_slot (page_of self.old.pages page).born s || has_slot slots s) }
     {
-        let page = &mut self.pages[page as usize];
-        page.add_born(slots);
+        self.pages.add_born(page, slots);
     }
 
     /// Closes the cut. Where a page has no copy yet the cut comes back, with the least such page.
@@ -129,14 +124,14 @@ impl Cut {
 }
 
 /// The least page without a copy.
-fn first_uncopied(pages: &[KeptPage]) -> Option<u32>
+fn first_uncopied(pages: &KeptPages) -> Option<u32>
     requires { length pages.now ≤ MOST_PAGES }
-    ensures some { IfSome result (λ page. IsFirstUncopied (cut_pages_of pages.now) page) }
-    ensures none { IfNone result (AreCopied (cut_pages_of pages.now)) }
+    ensures some { IfSome result (λ page. IsFirstUncopied pages.now page) }
+    ensures none { IfNone result (AreCopied pages.now) }
 {
-    for at in 0..pages.len() {
-        if !pages[at].is_copied() {
-            return Some(at as u32);
+    for page in 0..pages.count() {
+        if !pages.is_copied(page) {
+            return Some(page);
         }
     }
     None

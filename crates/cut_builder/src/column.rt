@@ -1,0 +1,89 @@
+//! Images of pages, one a page at most.
+ghost use Rattle.std.specs.Prelude.{◌≡◌, ◌<◌, ◌≤◌, Some, None, length, replicate, slice_index_or, slice_set, IfOk};
+ghost use Rattle.std.specs.Option.{option_copied};
+
+use object_graph::MOST_PAGES;
+use page_image::Page;
+use std::alloc::{AllocError, Global};
+use std::marker::Model;
+
+/// An image of a page, and after how many commits it stood.
+#[derive(Clone, Copy)]
+pub(crate) struct KeptImage {
+    pub(crate) image: Page,
+    pub(crate) moment: u64,
+}
+
+/// At most one image of each page. Contracts see what stands at each page. Room for all images is
+/// taken at the start, but images lie in it one after another as they come, so room that has none is
+/// never written. A page keeps its seat among them.
+#[derive(Drop)]
+pub(crate) struct Column {
+    seats: Vec<Option<u32>>,
+    images: Vec<Option<KeptImage>>,
+}
+
+impl Model for Column {
+    ghost use Rattle.std.specs.Prelude.{List, Option, vec_capacity};
+    ghost use Rattle.cut_builder.specs.declared.column.KeptImage.{KeptImage};
+    ghost use Rattle.cut_builder.specs.Seats.{at_seats, AreSeats};
+
+    ghost Value = { List (Option KeptImage) };
+
+    ghost view = { λ c. at_seats c.images.items c.seats.items };
+
+    ghost invariant = { λ c. AreSeats c.images.items (vec_capacity c.images) c.seats.items };
+}
+
+impl Column {
+    /// So many pages without an image.
+    pub(crate) fn start(alloc: Global, count: usize) -> Result<Column, AllocError>
+        requires { count ≤ MOST_PAGES }
+        ensures { IfOk result (λ column. column ≡ replicate count None) }
+    {
+        let _image: Option<KeptImage> = None;
+        let seats: Vec<Option<u32>> = Vec::from_elem(alloc, None, count)?;
+        let images = Vec::with_capacity(alloc, count)?;
+        Ok(Column { seats, images })
+    }
+
+    /// The image of a page.
+    #[inline(always)]
+    pub(crate) fn get(&self, page: u32) -> Option<&KeptImage>
+        requires { page < length self.now }
+        ensures { option_copied result ≡ slice_index_or self.now page None }
+    {
+        match self.seats[page as usize] {
+            Some(seat) => self.images[seat as usize].as_ref(),
+            None => None,
+        }
+    }
+
+    /// Puts an image of a page in place of what stands there.
+    pub(crate) fn set(&mut self, page: u32, image: &Page, moment: u64)
+        requires { page < length self.old }
+        ensures { self.new ≡ slice_set self.old page (Some (record { image = image.now; moment = moment })) }
+    {
+        let kept = Some(KeptImage {
+            image: *image,
+            moment,
+        });
+        match self.seats[page as usize] {
+            Some(seat) => self.images[seat as usize] = kept,
+            None => {
+                self.seats[page as usize] = Some(self.images.len() as u32);
+                self.images.push_reserved(kept);
+            }
+        }
+    }
+
+    /// Leaves a page without an image.
+    pub(crate) fn clear(&mut self, page: u32)
+        requires { page < length self.old }
+        ensures { self.new ≡ slice_set self.old page None }
+    {
+        if let Some(seat) = self.seats[page as usize] {
+            self.images[seat as usize] = None;
+        }
+    }
+}
