@@ -25,7 +25,12 @@ abbrev pub change_of : KeptImage → AfterImage
 change_of after = record { image = after.image.slots; moment = after.moment }
 
 abbrev pub cut_page_of : Option KeptImage → Option KeptImage → Option KeptImage → ℕ → CutPage
-cut_page_of current before after born = record { copy = option_map (copy_of before) current; after = option_map change_of after; born = born }
+cut_page_of current before after born = record {
+  copy = option_map
+      (copy_of before) current;
+  after = option_map change_of after;
+  born = born;
+}
 
 -- the current images, the before-images, the after-images and what was born, page by page
 pub record Kept : Type 0 where
@@ -36,7 +41,9 @@ pub record Kept : Type 0 where
 
 -- what a cut has of a page
 abbrev pub cut_page_at : Kept → ℕ → CutPage
-cut_page_at k page = cut_page_of (kept_at k.current page) (kept_at k.before page) (kept_at k.after page) (slice_index_or k.born page 0)
+cut_page_at k page =
+    let born = slice_index_or k.born page 0 in
+    cut_page_of (kept_at k.current page) (kept_at k.before page) (kept_at k.after page) born
 
 abbrev pub cut_pages_of : Kept → List CutPage
 cut_pages_of k = map (cut_page_at k) (range_with_len 0 (length k.born))

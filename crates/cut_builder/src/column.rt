@@ -1,6 +1,7 @@
 //! Images of pages, one a page at most.
 ghost use Rattle.std.specs.Prelude.{◌≡◌, ◌<◌, ◌≤◌, Some, None, length, replicate, slice_index_or, slice_set, IfOk};
 ghost use Rattle.std.specs.Option.{option_copied};
+ghost use Rattle.cut_builder.specs.Seats.{place_of};
 
 use object_graph::MOST_PAGES;
 use page_image::Page;
@@ -14,17 +15,38 @@ pub(crate) struct KeptImage {
     pub(crate) moment: u64,
 }
 
+/// Where the image of a page lies among the images.
+#[derive(Clone, Copy)]
+enum Seat {
+    Never,
+    Holds(u32),
+    Empty(u32),
+}
+
+impl Seat {
+    /// The place that the page has had since its first image.
+    fn place(self) -> Option<u32>
+        ensures { result ≡ place_of self }
+    {
+        match self {
+            Seat::Never => None,
+            Seat::Holds(place) => Some(place),
+            Seat::Empty(place) => Some(place),
+        }
+    }
+}
+
 /// At most one image of each page. Contracts see what stands at each page. Room for all images is
 /// taken at the start, but images lie in it one after another as they come, so room that has none is
-/// never written. A page keeps its seat among them.
+/// never written.
 #[derive(Drop)]
 pub(crate) struct Column {
-    seats: Vec<Option<u32>>,
-    images: Vec<Option<KeptImage>>,
+    seats: Vec<Seat>,
+    images: Vec<KeptImage>,
 }
 
 impl Model for Column {
-    ghost use Rattle.std.specs.Prelude.{List, Option, vec_capacity};
+    ghost use Rattle.std.specs.Prelude.{List, Option, length, vec_capacity};
     ghost use Rattle.cut_builder.specs.declared.column.KeptImage.{KeptImage};
     ghost use Rattle.cut_builder.specs.Seats.{at_seats, AreSeats};
 
@@ -32,7 +54,7 @@ impl Model for Column {
 
     ghost view = { λ c. at_seats c.images.items c.seats.items };
 
-    ghost invariant = { λ c. AreSeats c.images.items (vec_capacity c.images) c.seats.items };
+    ghost invariant = { λ c. AreSeats (length c.images.items) (vec_capacity c.images) c.seats.items };
 }
 
 impl Column {
@@ -41,8 +63,7 @@ impl Column {
         requires { count ≤ MOST_PAGES }
         ensures { IfOk result (λ column. column ≡ replicate count None) }
     {
-        let _image: Option<KeptImage> = None;
-        let seats: Vec<Option<u32>> = Vec::from_elem(alloc, None, count)?;
+        let seats = Vec::from_elem(alloc, Seat::Never, count)?;
         let images = Vec::with_capacity(alloc, count)?;
         Ok(Column { seats, images })
     }
@@ -54,8 +75,8 @@ impl Column {
         ensures { option_copied result ≡ slice_index_or self.now page None }
     {
         match self.seats[page as usize] {
-            Some(seat) => self.images[seat as usize].as_ref(),
-            None => None,
+            Seat::Holds(place) => Some(&self.images[place as usize]),
+            _ => None,
         }
     }
 
@@ -64,14 +85,17 @@ impl Column {
         requires { page < length self.old }
         ensures { self.new ≡ slice_set self.old page (Some (record { image = image.now; moment = moment })) }
     {
-        let kept = Some(KeptImage {
+        let kept = KeptImage {
             image: *image,
             moment,
-        });
-        match self.seats[page as usize] {
-            Some(seat) => self.images[seat as usize] = kept,
+        };
+        match self.seats[page as usize].place() {
+            Some(place) => {
+                self.seats[page as usize] = Seat::Holds(place);
+                self.images[place as usize] = kept;
+            }
             None => {
-                self.seats[page as usize] = Some(self.images.len() as u32);
+                self.seats[page as usize] = Seat::Holds(self.images.len() as u32);
                 self.images.push_reserved(kept);
             }
         }
@@ -82,8 +106,8 @@ impl Column {
         requires { page < length self.old }
         ensures { self.new ≡ slice_set self.old page None }
     {
-        if let Some(seat) = self.seats[page as usize] {
-            self.images[seat as usize] = None;
+        if let Some(place) = self.seats[page as usize].place() {
+            self.seats[page as usize] = Seat::Empty(place);
         }
     }
 }
