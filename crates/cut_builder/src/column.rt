@@ -85,18 +85,21 @@ impl Column {
         requires { page < length self.old }
         ensures { self.new ≡ slice_set self.old page (Some (record { image = image.now; moment = moment })) }
     {
-        let kept = KeptImage {
-            image: *image,
-            moment,
-        };
         match self.seats[page as usize].place() {
             Some(place) => {
+                self.images[place as usize] = KeptImage {
+                    image: *image,
+                    moment,
+                };
                 self.seats[page as usize] = Seat::Holds(place);
-                self.images[place as usize] = kept;
             }
             None => {
-                self.seats[page as usize] = Seat::Holds(self.images.len() as u32);
-                self.images.push_reserved(kept);
+                let place = self.images.len() as u32;
+                self.images.push_reserved(KeptImage {
+                    image: *image,
+                    moment,
+                });
+                self.seats[page as usize] = Seat::Holds(place);
             }
         }
     }

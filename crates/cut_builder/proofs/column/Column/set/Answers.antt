@@ -6,8 +6,8 @@ use Rattle.cut_builder.specs.Seats.{place_of, at_seats, seat_at, AreSeats}
 use Rattle.cut_builder.proofs.Seating.{seat_of, length-at, replaced, seated_last, has_place, keeps_place, takes_place}
 use Rattle.cut_builder.proofs.column.Column.set.Goals as goal
 
-pub index_mut-requires-in-Some : goal.index_mut-requires-in-Some
-index_mut-requires-in-Some c =
+pub index_mut-requires : goal.index_mut-requires
+index_mut-requires c =
     let seats = c.self.inside.seats.items in
     let images = c.self.inside.images.items in
     let page = c.args.page in
@@ -30,8 +30,8 @@ invariant_of-self c =
     subst (λ n. AreSeats n capacity (set seats page (Holds place))) (sym (length-set images place kept))
     (keeps_place (length images) capacity seats page place (Holds place) c.self.invariant within is refl)
 
-pub overflow_cast-len : goal.overflow_cast-len
-overflow_cast-len c =
+pub overflow_cast-place-in-None : goal.overflow_cast-place-in-None
+overflow_cast-place-in-None c =
     let seats = c.self.inside.seats.items in
     let images = c.self.inside.images.items in
     let page = c.args.page in
@@ -40,7 +40,7 @@ overflow_cast-len c =
     let is : place_of (seat_at seats page) ≡ None = ap (λ s. place_of s) (seat_of seats page c.index.result.now within c.index.ensures) ∙ (sym c.place.ensures ∙ c.in-None.is) in
     let low = has_place (length images) (vec_capacity c.self.inside.images) seats page c.self.invariant within is in
     let few = c.self.invariant.few in
-    let last = c.len.ensures in omega (arith, low, few, last)
+    let last = c.len-place.ensures in omega (arith, low, few, last)
 
 pub push_reserved-requires : goal.push_reserved-requires
 push_reserved-requires c =
@@ -63,10 +63,10 @@ invariant_of-self-in-None c =
     let is : place_of (seat_at seats page) ≡ None = ap (λ s. place_of s) (seat_of seats page c.index.result.now within c.index.ensures) ∙ (sym c.place.ensures ∙ c.in-None.is) in
     let kept : KeptImage = record { image = c.args.image.now; moment = c.args.moment } in
     let capacity = vec_capacity c.self.inside.images in
-    let last : c.len.result ≡ length images = let e = c.len.ensures in omega (arith, e) in
+    let last : c.len-place.result ≡ length images = let e = c.len-place.ensures in omega (arith, e) in
     let more : length c.push_reserved.new.self.items ≡ length images + 1 = ap length c.push_reserved.ensures.items ∙ length-append images (kept ∷ []) in
-    subst (λ n. AreSeats n (vec_capacity c.push_reserved.new.self) (set seats page (Holds c.len.result))) (sym more)
-    (subst (λ n. AreSeats (length images + 1) n (set seats page (Holds c.len.result))) (sym c.push_reserved.ensures.capacity)
+    subst (λ n. AreSeats n (vec_capacity c.push_reserved.new.self) (set seats page (Holds c.len-place.result))) (sym more)
+    (subst (λ n. AreSeats (length images + 1) n (set seats page (Holds c.len-place.result))) (sym c.push_reserved.ensures.capacity)
     (subst (λ n. AreSeats (length images + 1) capacity (set seats page (Holds n))) (sym last) (takes_place (length images) capacity seats page c.self.invariant within is)))
 
 pub returns-in-Some : goal.returns-in-Some
@@ -89,8 +89,8 @@ returns-in-None c =
     let long = length-at images seats in
     let within : page < length seats = let p = c.requires in omega (arith, p, long, ap length c.self.view_is) in
     let kept : KeptImage = record { image = c.args.image.now; moment = c.args.moment } in
-    let last : c.len.result ≡ length images = let e = c.len.ensures in omega (arith, e) in
-    ap (λ (xs : List KeptImage). at_seats xs (set seats page (Holds c.len.result))) c.push_reserved.ensures.items
+    let last : c.len-place.result ≡ length images = let e = c.len-place.ensures in omega (arith, e) in
+    ap (λ (xs : List KeptImage). at_seats xs (set seats page (Holds c.len-place.result))) c.push_reserved.ensures.items
     ∙ (ap (λ (n : ℕ). at_seats (images ++ kept ∷ []) (set seats page (Holds n))) last
     ∙ (seated_last images (vec_capacity c.self.inside.images) seats page kept c.self.invariant within
     ∙ ap (λ (xs : List (Option KeptImage)). set xs page (Some kept)) c.self.view_is))
