@@ -1,3 +1,3 @@
 mod Keeps
-mod Seating
+mod Placing
 pub mod Young

@@ -1,4 +1,4 @@
 pub mod CutParts
 pub mod Kept
-pub mod Seats
+pub mod Cells
 pub mod Young

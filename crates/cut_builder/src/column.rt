@@ -1,7 +1,7 @@
 //! Images of pages, one a page at most.
 ghost use Rattle.std.specs.Prelude.{◌≡◌, ◌<◌, ◌≤◌, Some, None, length, replicate, slice_index_or, slice_set, IfOk};
 ghost use Rattle.std.specs.Option.{option_copied};
-ghost use Rattle.cut_builder.specs.Seats.{place_of};
+ghost use Rattle.cut_builder.specs.Cells.{place_of};
 
 use object_graph::MOST_PAGES;
 use page_image::Page;
@@ -17,21 +17,21 @@ pub(crate) struct KeptImage {
 
 /// Where the image of a page lies among the images.
 #[derive(Clone, Copy)]
-enum Seat {
+enum Cell {
     Never,
     Holds(u32),
     Empty(u32),
 }
 
-impl Seat {
+impl Cell {
     /// The place that the page has had since its first image.
     fn place(self) -> Option<u32>
         ensures { result ≡ place_of self }
     {
         match self {
-            Seat::Never => None,
-            Seat::Holds(place) => Some(place),
-            Seat::Empty(place) => Some(place),
+            Cell::Never => None,
+            Cell::Holds(place) => Some(place),
+            Cell::Empty(place) => Some(place),
         }
     }
 }
@@ -41,20 +41,20 @@ impl Seat {
 /// never written.
 #[derive(Drop)]
 pub(crate) struct Column {
-    seats: Vec<Seat>,
+    cells: Vec<Cell>,
     images: Vec<KeptImage>,
 }
 
 impl Model for Column {
     ghost use Rattle.std.specs.Prelude.{List, Option, length, vec_capacity};
     ghost use Rattle.cut_builder.specs.declared.column.KeptImage.{KeptImage};
-    ghost use Rattle.cut_builder.specs.Seats.{at_seats, AreSeats};
+    ghost use Rattle.cut_builder.specs.Cells.{at_cells, AreCells};
 
     ghost Value = { List (Option KeptImage) };
 
-    ghost view = { λ c. at_seats c.images.items c.seats.items };
+    ghost view = { λ c. at_cells c.images.items c.cells.items };
 
-    ghost invariant = { λ c. AreSeats (length c.images.items) (vec_capacity c.images) c.seats.items };
+    ghost invariant = { λ c. AreCells (length c.images.items) (vec_capacity c.images) c.cells.items };
 }
 
 impl Column {
@@ -63,9 +63,9 @@ impl Column {
         requires { count ≤ MOST_PAGES }
         ensures { IfOk result (λ column. column ≡ replicate count None) }
     {
-        let seats = Vec::from_elem(alloc, Seat::Never, count)?;
+        let cells = Vec::from_elem(alloc, Cell::Never, count)?;
         let images = Vec::with_capacity(alloc, count)?;
-        Ok(Column { seats, images })
+        Ok(Column { cells, images })
     }
 
     /// The image of a page.
@@ -74,8 +74,8 @@ impl Column {
         requires { page < length self.now }
         ensures { option_copied result ≡ slice_index_or self.now page None }
     {
-        match self.seats[page as usize] {
-            Seat::Holds(place) => Some(&self.images[place as usize]),
+        match self.cells[page as usize] {
+            Cell::Holds(place) => Some(&self.images[place as usize]),
             _ => None,
         }
     }
@@ -85,13 +85,13 @@ impl Column {
         requires { page < length self.old }
         ensures { self.new ≡ slice_set self.old page (Some (record { image = image.now; moment = moment })) }
     {
-        match self.seats[page as usize].place() {
+        match self.cells[page as usize].place() {
             Some(place) => {
                 self.images[place as usize] = KeptImage {
                     image: *image,
                     moment,
                 };
-                self.seats[page as usize] = Seat::Holds(place);
+                self.cells[page as usize] = Cell::Holds(place);
             }
             None => {
                 let place = self.images.len() as u32;
@@ -99,7 +99,7 @@ impl Column {
                     image: *image,
                     moment,
                 });
-                self.seats[page as usize] = Seat::Holds(place);
+                self.cells[page as usize] = Cell::Holds(place);
             }
         }
     }
@@ -109,8 +109,8 @@ impl Column {
         requires { page < length self.old }
         ensures { self.new ≡ slice_set self.old page None }
     {
-        if let Some(place) = self.seats[page as usize].place() {
-            self.seats[page as usize] = Seat::Empty(place);
+        if let Some(place) = self.cells[page as usize].place() {
+            self.cells[page as usize] = Cell::Empty(place);
         }
     }
 }
