@@ -1,7 +1,7 @@
 //! The desk.
 ghost use Rattle.std.specs.Prelude.{◌≡◌, ℕ, ◌-◌, ◌≤◌, [], length, Ok, IfOk, IfErr, IfSome};
 ghost use Rattle.turn_lock.specs.Lists.{AreOfOne, places, times};
-ghost use Rattle.turn_lock.specs.Seats.{all_parts, first_seat, joined_seats, less_one_part, split_off};
+ghost use Rattle.turn_lock.specs.Seats.{all_parts, first_seat, joined_seats, less_one_part, split_off, TakesTurn};
 ghost use Rattle.store_desk.specs.Appended.{Did, DidClose, DidMark, IsTaken};
 ghost use Rattle.store_desk.specs.Events.{HasClosing};
 ghost use Rattle.store_desk.specs.Seats.{Called, ClosedBy, MarkedBy, Looked};
@@ -17,11 +17,15 @@ use std::alloc::Global;
 use std::marker::Model;
 use std::sync::Wait;
 use std::sync::ledger::Ledger;
-use turn_lock::{Seat, Turn};
+use turn_lock::{Held, Seat, Turn};
 
 /// A seat at the desk. Contracts see the core with which the desk was made, a beginning of the
 /// chronicle, which of its entries are the seat's own, and the seat's parts.
 pub type DeskSeat<D> = Seat<DeskState<D>>;
+
+/// A seat at the desk that keeps its turn. Contracts see what they see of the seat, which has seen
+/// the whole chronicle.
+pub type DeskHeld<D> = Held<DeskState<D>>;
 
 /// One store for many threads. Contracts see which desk it is, and the state with which it was
 /// made.
@@ -115,6 +119,43 @@ impl<D: Disk> Desk<D> {
                 { state.call(rt, lane, call, steps) },
             )
             .0
+    }
+
+    /// Waits for the seat's turn, and keeps it until `leave`.
+    pub fn enter<W: Wait>(&self, rt: &W, seat: DeskSeat<D>) -> DeskHeld<D>
+        requires own { seat.turn ≡ self.now.turn }
+        ensures { TakesTurn seat result }
+    {
+        self.turn.enter(rt, seat)
+    }
+
+    /// Ends a turn that was kept.
+    pub fn leave(&self, held: DeskHeld<D>) -> DeskSeat<D>
+        requires own { held.turn ≡ self.now.turn }
+        ensures same { result ≡ held }
+    {
+        self.turn.leave(held)
+    }
+
+    /// One call of a lane in a turn that its seat keeps. It does what `call` does, without waiting.
+    pub fn call_held<L: Ledger>(
+        &self,
+        held: &mut DeskHeld<D>,
+        lane: u32,
+        call: Call,
+        steps: &mut Steps<L>,
+    ) -> Result<(Reply, u64), Memory>
+        requires own { held.old.turn ≡ self.now.turn }
+        requires taken { IsTaken call }
+        ensures { Called D.Disk held.old held.new lane call result }
+    {
+        held.with_beside(
+            steps,
+            |state, steps| -> Result<(Reply, u64), Memory>
+                requires { IsTaken call }
+                ensures { Did D.Disk state.old state.new lane call result }
+            { state.call(&(), lane, call, steps) },
+        )
     }
 
     /// Closes the cut, in the seat's turn. It leaves with the images and born slots that it has,

@@ -7,7 +7,7 @@ mod happening;
 mod names;
 mod state;
 
-pub use desk::{Desk, DeskSeat};
+pub use desk::{Desk, DeskHeld, DeskSeat};
 pub use event::{Event, Note};
 pub use names::FreedNames;
 pub use state::DeskState;

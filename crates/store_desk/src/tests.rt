@@ -3,7 +3,7 @@ ghost use Rattle.std.specs.Prelude.{◌≡◌, ◌<◌, IfOk};
 ghost use Rattle.turn_lock.specs.Seats.{all_parts};
 ghost use Rattle.store_desk.specs.Appended.{IsTaken};
 
-use crate::{Desk, DeskSeat, DeskState, Note};
+use crate::{Desk, DeskHeld, DeskSeat, DeskState, Note};
 use cut_core::Core;
 use disk_trait::MemDisk;
 use object_graph::{Call, Entry, Memory, Phase, Refusal, Reply, Steps};
@@ -104,6 +104,46 @@ fn answer_over<W: Wait, L: Ledger>(
     }
 }
 
+/// The same in a turn that is kept.
+fn answer_held<L: Ledger>(
+    desk: &Desk<MemDisk>,
+    held: &mut DeskHeld<MemDisk>,
+    lane: u32,
+    call: Call,
+    steps: &mut Steps<L>,
+) -> Option<(Reply, u64)>
+    requires own { held.old.turn ≡ desk.now.turn }
+    requires taken { IsTaken call }
+    ensures turn { held.new.turn ≡ held.old.turn }
+    ensures parts { held.new.parts ≡ held.old.parts }
+{
+    match desk.call_held(held, lane, call, steps) {
+        Ok(answered) => Some(answered),
+        Err(_memory) => None,
+    }
+}
+
+/// The reply to the commit of a transaction that begins in the same turn, and its place.
+fn commit_in_one_turn<W: Wait, L: Ledger>(
+    rt: &W,
+    desk: &Desk<MemDisk>,
+    seat: DeskSeat<MemDisk>,
+    blank: Blank,
+) -> (Option<(Reply, u64)>, DeskSeat<MemDisk>)
+    requires name { blank.name ≡ L.name }
+    requires parts { blank.parts ≡ L.parts }
+    requires some { 0 < blank.parts }
+    requires own { seat.turn ≡ desk.now.turn }
+    ensures turn { result.1.turn ≡ seat.turn }
+    ensures parts { result.1.parts ≡ seat.parts }
+{
+    let mut steps: Steps<L> = Steps::new(blank);
+    let mut held = desk.enter(rt, seat);
+    let _ = answer_held(desk, &mut held, 2, Call::Begin { txn: 2 }, &mut steps);
+    let done = answer_held(desk, &mut held, 2, Call::Commit { txn: 2 }, &mut steps);
+    (done, desk.leave(held))
+}
+
 /// The number of the cut that was closed, or why none was, and the entry's place.
 fn close_cut<W: Wait>(
     rt: &W,
@@ -151,16 +191,21 @@ fn make_room<W: Wait>(rt: &W, desk: &Desk<MemDisk>, seat: &mut DeskSeat<MemDisk>
 #[test]
 fn two_seats_fill_one_chronicle(rt: HostRuntime) -> Result<(), Fail> {
     let (desk, mut seat) = fresh_desk(rt.alloc())?;
-    let Ok(mut other) = desk.split(&mut seat) else {
+    let Ok(other) = desk.split(&mut seat) else {
         unreachable!()
     };
     assert!(rt; make_room(&rt, &desk, &mut seat));
     let first = answer(&rt, &desk, &mut seat, 1, Call::Begin { txn: 1 });
-    let second = answer(&rt, &desk, &mut other, 2, Call::Commit { txn: 1 });
+    let (second, other) = commit_in_one_turn::<HostRuntime, Brand>(
+        &rt,
+        &desk,
+        other,
+        Blank::new(1),
+    );
     desk.join(&mut seat, other);
     let (core, chronicle) = desk.close(seat);
     assert_eq!(rt; first, Some((Reply::Done, 0)));
-    assert_eq!(rt; second, Some((Reply::Committed { commits: 1 }, 1)));
+    assert_eq!(rt; second, Some((Reply::Committed { commits: 1 }, 2)));
     assert_eq!(rt; core.commits(), 1);
     let entries = [
         Entry {
@@ -170,7 +215,12 @@ fn two_seats_fill_one_chronicle(rt: HostRuntime) -> Result<(), Fail> {
         },
         Entry {
             lane: 2,
-            call: Call::Commit { txn: 1 },
+            call: Call::Begin { txn: 2 },
+            reply: Reply::Done,
+        },
+        Entry {
+            lane: 2,
+            call: Call::Commit { txn: 2 },
             reply: Reply::Committed { commits: 1 },
         },
     ];
