@@ -3,7 +3,7 @@ use Rattle.std.proofs.Common.{◌≡◌, ◌≢◌, ℕ, ◌+◌, ◌≤◌, Boo
 use mathlib.Core.Logic.{dite}
 use native.Mathlib.Decide.{dec_le}
 use Rattle.std.proofs.lemmas.Bool.{ne_eqb, and_parts}
-use Rattle.std.specs.Prelude.{IsTrue, Ok, Err}
+use Rattle.std.specs.Prelude.{IsTrue, Some, None, Result, Ok, Err, is_err}
 use Rattle.object_graph.specs.declared.memory.Memory.{Memory}
 use Rattle.disk_trait.specs.declared.disk.Disk.{Ghosts as DiskOf}
 use Rattle.store_model.specs.Worlds as model
@@ -18,7 +18,7 @@ use Rattle.cut_core.specs.Seen.{Seen}
 use Rattle.store_desk.specs.Events.{history}
 use Rattle.store_desk.specs.Seats.{AtDesk}
 use Rattle.store_lanes.specs.LaneScripts.{SayInLanes, wishes_of, lines_of_lane}
-use Rattle.store_lanes.specs.Lanes.{LaneGoes, LineMade, LinePassed, LineRan, Went, LanesRan}
+use Rattle.store_lanes.specs.Lanes.{IsFor, LineServed, LaneGoes, Went, LanesRan}
 use Rattle.store_lanes.specs.Owned.{has, part, OwnsLanes, own_part, SameSeat}
 use Rattle.store_lanes.specs.Served.{ServesFront, Begins, FollowsTo}
 use Rattle.store_lanes.proofs.Making.{starts_history, known_before}
@@ -92,23 +92,26 @@ module _ {D : Type 0} (disks : DiskOf D) (first : Seen D) where
     goes = λ said ahead. record { past = []; future = said; split = refl; ahead = ahead; follows = λ known. part_none seat.own lane (world_events w (history seat.seen)) none };
   }
 
-  going_passed : (all left : List (List ℕ)) (line : List ℕ) (lane : ℕ) (old new : AtDesk D) → LaneGoes disks first all (line ∷ left) lane old → LinePassed disks first lane line old new → LaneGoes disks first all left lane new
-  going_passed all left line lane old new g passed = subst (LaneGoes disks first all left lane) (sym passed.same) (record {
+  -- a line that is none of the lane
+  pub going_passed : (all left : List (List ℕ)) (line : List ℕ) (lane : ℕ) (seat : AtDesk D) → LaneGoes disks first all (line ∷ left) lane seat → IsFor lane line None → LaneGoes disks first all left lane seat
+  going_passed all left line lane seat g other = record {
     owns = g.owns;
     goes = λ said ahead. (let s = g.goes said ahead in let n = said_next line left s.future s.ahead in record {
       past = s.past ++ n.first ∷ [];
       future = n.rest;
       split = split_on said s.past s.future n.rest n.first s.split n.is;
       ahead = n.ahead;
-      follows = λ known. subst (λ (l : List (List Wish)). FollowsLane l (own_part w lane old)) (sym (lines_other w.pages lane s.past n.first (passed.other n.first n.says))) (s.follows known);
+      follows = λ known. subst (λ (l : List (List Wish)). FollowsLane l (own_part w lane seat)) (sym (lines_other w.pages lane s.past n.first (other n.first n.says))) (s.follows known);
     });
-  })
+  }
 
-  going_made : (all left : List (List ℕ)) (line : List ℕ) (lane : ℕ) (old new : AtDesk D) → LaneGoes disks first all (line ∷ left) lane old → LineMade disks first lane line old new (Ok tt) → LaneGoes disks first all left lane new
-  going_made all left line lane old new g made =
-      let served = made.served in record {
+  -- a line of the lane
+  going_made : (all left : List (List ℕ)) (line : List ℕ) (lane : ℕ) (asked : Line) (old new : AtDesk D) → LaneGoes disks first all (line ∷ left) lane old → IsFor lane line (Some asked) → LineServed disks first lane asked old new (Ok tt)
+      → LaneGoes disks first all left lane new
+  going_made all left line lane asked old new g its served =
+      record {
         owns = served.added.owns g.owns;
-        goes = λ said ahead. (let s = g.goes said ahead in let n = said_next line left s.future s.ahead in let only = made.only n.first n.says in record {
+        goes = λ said ahead. (let s = g.goes said ahead in let n = said_next line left s.future s.ahead in let only = its.1 n.first n.says in record {
           past = s.past ++ n.first ∷ [];
           future = n.rest;
           split = split_on said s.past s.future n.rest n.first s.split n.is;
@@ -120,10 +123,10 @@ module _ {D : Type 0} (disks : DiskOf D) (first : Seen D) where
         });
       }
 
-  -- a line more, whichever it is
-  pub going_on : (all left : List (List ℕ)) (line : List ℕ) (lane : ℕ) (own : Bool) (old new : AtDesk D) → LaneGoes disks first all (line ∷ left) lane old → LineRan disks first lane line old new (Ok own) → LaneGoes disks first all left lane new
-  going_on all left line lane true old new g ran = going_made all left line lane old new g ran
-  going_on all left line lane false old new g ran = going_passed all left line lane old new g ran
+  pub going_on : (all left : List (List ℕ)) (line : List ℕ) (lane : ℕ) (asked : Line) (result : Result (Unit {0}) Memory) (old new : AtDesk D) → is_err result ≡ false → LaneGoes disks first all (line ∷ left) lane old
+      → IsFor lane line (Some asked) → LineServed disks first lane asked old new result → LaneGoes disks first all left lane new
+  going_on all left line lane asked (Ok done) old new e g its served = going_made all left line lane asked old new g its served
+  going_on all left line lane asked (Err memory) old new e g its served = absurd (let clash : true ≡ false = e in let f : ⊥ = cc in f)
 
   -- ---- the end of a lane
 
@@ -140,13 +143,13 @@ module _ {D : Type 0} (disks : DiskOf D) (first : Seen D) where
   }
 
   -- a lane that found no room in a line
-  pub going_stopped : (all left : List (List ℕ)) (line : List ℕ) (lane : ℕ) (memory : Memory) (old new : AtDesk D) → LaneGoes disks first all (line ∷ left) lane old → LineRan disks first lane line old new (Err memory)
-      → LanesRan disks first all lane lane false new
-  going_stopped all left line lane memory old new g made =
-      let served = made.served in record {
+  going_stopped : (all left : List (List ℕ)) (line : List ℕ) (lane : ℕ) (asked : Line) (memory : Memory) (old new : AtDesk D) → LaneGoes disks first all (line ∷ left) lane old → IsFor lane line (Some asked)
+      → LineServed disks first lane asked old new (Err memory) → LanesRan disks first all lane lane false new
+  going_stopped all left line lane asked memory old new g its served =
+      record {
         owns = served.added.owns g.owns;
         each = λ k low high said ahead. subst (λ (j : ℕ). Went disks first j false new said) (let e : lane ≡ k = omega arith in e)
-            (let s = g.goes said ahead in let n = said_next line left s.future s.ahead in let only = made.only n.first n.says in record {
+            (let s = g.goes said ahead in let n = said_next line left s.future s.ahead in let only = its.1 n.first n.says in record {
               past = s.past;
               future = s.future;
               split = s.split;
@@ -161,6 +164,11 @@ module _ {D : Type 0} (disks : DiskOf D) (first : Seen D) where
               };
             });
       }
+
+  pub going_failed : (all left : List (List ℕ)) (line : List ℕ) (lane : ℕ) (asked : Line) (result : Result (Unit {0}) Memory) (old new : AtDesk D) → is_err result ≡ true → LaneGoes disks first all (line ∷ left) lane old
+      → IsFor lane line (Some asked) → LineServed disks first lane asked old new result → LanesRan disks first all lane lane false new
+  going_failed all left line lane asked (Ok done) old new e g its served = never_true e
+  going_failed all left line lane asked (Err memory) old new e g its served = going_stopped all left line lane asked memory old new g its served
 
   -- ---- several lanes
 

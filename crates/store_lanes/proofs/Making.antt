@@ -24,6 +24,7 @@ use Rattle.cut_core.specs.Given.{IsCutOf}
 use Rattle.cut_core.specs.Seen.{Seen}
 use Rattle.script_lang.specs.declared.line.Line.{Line}
 use Rattle.turn_lock.specs.Lists.{StartsWith}
+use Rattle.turn_lock.specs.Seats.{TakesTurn}
 use Rattle.turn_lock.proofs.Lists.{starts_on}
 use Rattle.store_desk.specs.Appended.{IsOf, IsClosingOf, IsMarkingOf, marked_number}
 use Rattle.store_desk.specs.Chronicles.{IsKnown, IsChronicle, KeepCuts}
@@ -64,14 +65,18 @@ module _ {D : Type 0} (w : World) (lane : ℕ) where
     parts = λ o. y.parts (x.owns o) ∙ (ap (λ (l : List WorldEvent). l ++ ns) (x.parts o) ∙ append_assoc (own_part w lane a) ms ns);
   }
 
+  -- a seat that has seen more, and owns as much
+  pub added_seen : (old new : AtDesk D) → StartsWith new.seen old.seen → new.own ≡ old.own → Added w lane old new []
+  added_seen old new more own =
+      let begins = starts_history new.seen old.seen more in record {
+        begins = more;
+        owns = λ o. subst (λ (ps : List ℕ). OwnsLanes w lane lane ps (history new.seen)) (sym own) (owns_grown w lane lane old.own (history old.seen) (history new.seen) o begins);
+        parts = λ o. ((λ i. part (own i) lane 0 (world_events w (begins.1 i))) ∙ part-grown w old.own lane (history old.seen) begins.0 o.below) ∙ sym (append-nil (own_part w lane old));
+      }
+
 module _ {D : Type 0} (disks : DiskOf D) (w : World) (lane : ℕ) (old new : AtDesk D) where
   pub added_looked : Looked disks old new → Added w lane old new []
-  added_looked looked =
-      let begins = starts_history new.seen old.seen looked.saw.begins in record {
-        begins = looked.saw.begins;
-        owns = λ o. subst (λ (ps : List ℕ). OwnsLanes w lane lane ps (history new.seen)) (sym looked.own) (owns_grown w lane lane old.own (history old.seen) (history new.seen) o begins);
-        parts = λ o. ((λ i. part (looked.own i) lane 0 (world_events w (begins.1 i))) ∙ part-grown w old.own lane (history old.seen) begins.0 o.below) ∙ sym (append-nil (own_part w lane old));
-      }
+  added_looked looked = added_seen w lane old new looked.saw.begins looked.own
 
   pub added_entered : (Says : Event → Type 0) (place : ℕ) (e : Entered disks old new Says place) → e.event.entry.lane ≡ lane → Added w lane old new (world_event_of w e.before e.event ∷ [])
   added_entered Says place e of =
@@ -228,6 +233,10 @@ module _ {D : Type 0} (disks : DiskOf D) (first : Seen D) (lane : ℕ) (old new 
   pub part_none : old ≡ new → PartRan disks first lane [] old new (Ok true)
   part_none same = subst (λ (s : AtDesk D). PartRan disks first lane [] old s (Ok true)) same (record { made = []; added = added_none first.world lane old; outcome = refl; own = λ known. tt })
 
+  -- the lane took its turn
+  pub part_waited : TakesTurn old new → PartRan disks first lane [] old new (Ok true)
+  part_waited took = record { made = []; added = added_seen first.world lane old new took.begins (ap (λ (s : AtDesk D). s.own) took.rest); outcome = refl; own = λ known. tt }
+
   -- a line of one call, and a collection
   pub line_served : (line : Line) (calls : List Call) (result : Result Bool Memory) → wishes_of first.world.pages line ≡ map one_call calls → PartRan disks first lane calls old new result → LineServed disks first lane line old new (without_bool result)
   line_served line calls result is p = record {
@@ -236,3 +245,7 @@ module _ {D : Type 0} (disks : DiskOf D) (first : Seen D) (lane : ℕ) (old new 
     own = λ known. own_line p.made (p.own known);
     serves = subst (λ (ws : List Wish). ServesBy ws p.made (without_bool result)) (sym is) (serves_by calls p.made result p.outcome);
   }
+
+-- a lane that keeps its turn has it
+pub keeps_turn : {D : Type 0} (s : AtDesk D) → TakesTurn s s
+keeps_turn s = record { begins = ([], sym (append-nil s.seen)); rest = refl }

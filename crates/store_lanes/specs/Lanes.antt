@@ -25,6 +25,12 @@ IsRun (One call) = IsTaken call × (is_plain call ≡ true)
 IsRun (Collect workers) = Unit {0}
 IsRun Note = ⊥
 
+-- what the line of these bytes asks a lane for, and nothing else; or it is none of the lane
+abbrev pub IsFor : ℕ → List ℕ → Option Line → Type 0
+IsFor lane bytes (Some line) = IsRun line
+    × ((s : LaneLine) → SaysInLane bytes s.lane s.line → (s.lane ≡ lane) × (s.line ≡ line))
+IsFor lane bytes None = (s : LaneLine) → SaysInLane bytes s.lane s.line → s.lane ≢ lane
+
 -- What follows speaks of a desk over a disk with these members, which was made with a core.
 module _ {D : Type 0} (disks : DiskOf D) (first : Seen D) where
   -- where it is known what the reopenings found
@@ -85,23 +91,6 @@ module _ {D : Type 0} (disks : DiskOf D) (first : Seen D) where
   pub record LaneGoes (all left : List (List ℕ)) (lane : ℕ) (seat : AtDesk D) : Type 0 where
     pub owns : SeatOwns first.world lane lane seat
     pub goes : (said : List LaneLine) → SayInLanes all said → LaneStands left lane seat said
-
-  -- the line is one of the lane, and it was run; or there was no room for one of its calls
-  pub record LineMade (lane : ℕ) (bytes : List ℕ) (old new : AtDesk D)
-      (result : Result (Unit {0}) Memory) : Type 0 where
-    pub line : Line
-    pub only : (s : LaneLine) → SaysInLane bytes s.lane s.line → (s.lane ≡ lane) × (s.line ≡ line)
-    pub served : LineServed lane line old new result
-
-  -- the line is none of the lane
-  pub record LinePassed (lane : ℕ) (bytes : List ℕ) (old new : AtDesk D) : Type 0 where
-    pub other : (s : LaneLine) → SaysInLane bytes s.lane s.line → s.lane ≢ lane
-    pub same : new ≡ old
-
-  abbrev pub LineRan : ℕ → List ℕ → AtDesk D → AtDesk D → Result Bool Memory → Type 0
-  LineRan lane bytes old new (Ok true) = LineMade lane bytes old new (Ok tt)
-  LineRan lane bytes old new (Ok false) = LinePassed lane bytes old new
-  LineRan lane bytes old new (Err memory) = LineMade lane bytes old new (Err memory)
 
   -- a lane's own events follow some of its lines, and all of them where it went to the end
   pub record Went (lane : ℕ) (whole : Bool) (seat : AtDesk D) (said : List LaneLine) : Type 0 where

@@ -1,13 +1,16 @@
 //! One lane of a script, and all of them beside each other.
 ghost use Rattle.std.specs.Prelude.{◌≡◌, ◌≢◌, ◌<◌, ◌&&◌, [], ◌∷◌, false};
 ghost use Rattle.script_lang.specs.Script.{lines_of, SaysInLane};
+ghost use Rattle.store_model.specs.Histories.{collection};
 ghost use Rattle.script_lang.specs.declared.line.LaneLine.{LaneLine as AnyLaneLine};
-ghost use Rattle.store_lanes.specs.Lanes.{IsRun, LanesRan, LineRan, LineServed};
+ghost use Rattle.store_lanes.specs.Lanes.{IsFor, IsRun, LanesRan, LineServed, PartRan};
 ghost use Rattle.store_lanes.specs.Owned.{SameSeat};
+ghost use Rattle.store_lanes.specs.Posts.{seat_of};
 ghost use Rattle.store_lanes.specs.Served.{without_bool};
 
 use crate::collect::collect;
-use crate::step::step;
+use crate::post::Post;
+use crate::step::step_in_turn;
 use disk_trait::{Disk, Gate};
 use object_graph::Memory;
 use script_lang::{LaneLine, Line, lane_of, next_line, read_lane_line};
@@ -19,34 +22,56 @@ use store_desk::{Desk, DeskSeat};
 /// How many lanes there are.
 pub const LANES: u32 = 16;
 
+/// A collection of a lane, which leaves its turn first: each of its calls takes a turn of its own, and
+/// marking is done outside them.
+fn collect_seated<R: Threads + Wait + Sync, D: Disk>(
+    rt: &R,
+    alloc: Global,
+    desk: &Desk<D>,
+    post: Post<D>,
+    lane: u32,
+    workers: u32,
+) -> (Post<D>, Result<bool, Memory>)
+    requires own { (seat_of post).turn ≡ desk.now.turn }
+    requires start { (seat_of post).start ≡ desk.now.value.start ∷ [] }
+    ensures ran { PartRan D.Disk desk.now.value.start lane (collection desk.now.value.start.world.pages workers) (seat_of post) (seat_of result.0) result.1 }
+    ensures same { SameSeat (seat_of post) (seat_of result.0) }
+{
+    let mut seat = post.seated(desk);
+    let ran = collect(rt, alloc, desk, &mut seat, lane, workers);
+    (Post::Seated { seat }, ran)
+}
+
 /// The calls of a line of a lane.
 fn serve<R: Threads + Wait + Sync, D: Disk>(
     rt: &R,
     alloc: Global,
     desk: &Desk<D>,
-    seat: &mut DeskSeat<D>,
+    post: Post<D>,
     lane: u32,
     line: Line,
-) -> Result<(), Memory>
-    requires own { seat.old.turn ≡ desk.now.turn }
-    requires start { seat.old.start ≡ desk.now.value.start ∷ [] }
+) -> (Post<D>, Result<(), Memory>)
+    requires own { (seat_of post).turn ≡ desk.now.turn }
+    requires start { (seat_of post).start ≡ desk.now.value.start ∷ [] }
     requires run { IsRun line }
-    ensures served { LineServed D.Disk desk.now.value.start lane line seat.old seat.new result }
-    ensures same { SameSeat seat.old seat.new }
+    ensures served { LineServed D.Disk desk.now.value.start lane line (seat_of post) (seat_of result.0) result.1 }
+    ensures same { SameSeat (seat_of post) (seat_of result.0) }
 {
     let ran = match line {
-        Line::One { call } => step(rt, desk, seat, lane, call),
-        Line::Collect { workers } => collect(rt, alloc, desk, seat, lane, workers),
+        Line::One { call } => step_in_turn(rt, desk, post, lane, call),
+        Line::Collect { workers } => collect_seated(rt, alloc, desk, post, lane, workers),
         Line::Note => unreachable!(),
     };
     without_value(ran)
 }
 
 /// Whether all was done is nothing to the line.
-fn without_value(ran: Result<bool, Memory>) -> Result<(), Memory>
-    ensures { result ≡ without_bool ran }
+fn without_value<D: Disk>(ran: (Post<D>, Result<bool, Memory>)) -> (Post<D>, Result<(), Memory>)
+    ensures post { result.0 ≡ ran.0 }
+    ensures result { result.1 ≡ without_bool ran.1 }
 {
-    ran.map(|_| ())
+    let (post, done) = ran;
+    (post, done.map(|_| ()))
 }
 
 /// Whether a line can be one of the lane, by its first word.
@@ -61,37 +86,22 @@ fn can_be_of(bytes: &[u8], lane: u32) -> bool
     }
 }
 
-/// Runs a line, where it is one of the lane, behind the gate. Answers whether it was.
-fn run_line<R: Threads + Wait + Sync, D: Disk, G: Gate>(
-    rt: &R,
-    alloc: Global,
-    desk: &Desk<D>,
-    seat: &mut DeskSeat<D>,
-    gate: &G,
-    bytes: &[u8],
-    lane: u32,
-    turn: u64,
-) -> Result<bool, Memory>
-    requires lane { 0 < lane }
-    requires own { seat.old.turn ≡ desk.now.turn }
-    requires start { seat.old.start ≡ desk.now.value.start ∷ [] }
-    ensures ran { LineRan D.Disk desk.now.value.start lane bytes.now seat.old seat.new result }
-    ensures same { SameSeat seat.old seat.new }
+/// What a line asks for, where it is one of the lane.
+#[inline(always)]
+fn line_for(bytes: &[u8], lane: u32) -> Option<Line>
+    requires { 0 < lane }
+    ensures { IsFor lane bytes.now result }
 {
     if !can_be_of(bytes, lane) {
-        return Ok(false);
+        return None;
     }
     let Ok(LaneLine { lane: of, line }) = read_lane_line(bytes) else {
-        return Ok(false);
+        return None;
     };
     if of != lane {
-        return Ok(false);
+        return None;
     }
-    gate.pass(lane, turn);
-    match serve(rt, alloc, desk, seat, lane, line) {
-        Ok(()) => Ok(true),
-        Err(memory) => Err(memory),
-    }
+    Some(line)
 }
 
 /// Runs the lines of one lane in turn, up to the first that finds no memory. Answers whether it came
@@ -100,7 +110,7 @@ fn run_lane<R: Threads + Wait + Sync, D: Disk, G: Gate>(
     rt: &R,
     alloc: Global,
     desk: &Desk<D>,
-    mut seat: DeskSeat<D>,
+    seat: DeskSeat<D>,
     gate: &G,
     script: &[u8],
     lane: u32,
@@ -112,24 +122,30 @@ fn run_lane<R: Threads + Wait + Sync, D: Disk, G: Gate>(
     ensures ran { LanesRan D.Disk desk.now.value.start (lines_of script.now) lane lane result.1 result.0 }
     ensures same { SameSeat seat result.0 }
 {
+    let mut post = Post::Seated { seat };
     let mut rest = script;
     let mut turn: u64 = 1;
-    'lines: while let Some((line, after)) = next_line(rest) {
-        match run_line(rt, alloc, desk, &mut seat, gate, line, lane, turn) {
-            Ok(true) => turn = turn.saturating_add(1),
-            Ok(false) => {}
-            Err(_) => return (seat, false),
+    'lines: while let Some((bytes, after)) = next_line(rest) {
+        if let Some(line) = line_for(bytes, lane) {
+            gate.pass(lane, turn);
+            let (next, served) = serve(rt, alloc, desk, post, lane, line);
+            post = next;
+            if served.is_err() {
+                return (post.seated(desk), false);
+            }
+            turn = turn.saturating_add(1);
         }
         rest = after;
     }
-    (seat, true)
+    (post.seated(desk), true)
 }
 
 /// Runs the lanes from the first to the last of these beside each other, each in a thread of its own
 /// (FORMATS.md, "Script lines"). A lane runs its lines in order, and passes the gate before each, with
-/// its number and the line's among its own, from 1 on. Where there is no room for a call it stops. The
-/// seat is cut in parts for them, so it has more parts than there are lanes. Answers whether all came
-/// to their ends.
+/// its number and the line's among its own, from 1 on; before the first line of a turn it does so
+/// without the turn, and before the others in the turn, for which the other lanes wait. Where there is
+/// no room for a call it stops. The seat is cut in parts for them, so it has more parts than there are
+/// lanes. Answers whether all came to their ends.
 pub fn run_lanes<R: Threads + Wait + Sync, D: Disk + Send, G: Gate>(
     rt: &R,
     alloc: Global,

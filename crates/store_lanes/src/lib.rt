@@ -3,9 +3,11 @@
 
 mod collect;
 mod lane;
+mod post;
 mod step;
 
 pub use lane::{LANES, run_lanes};
+pub use post::MOST_HELD;
 
 #[cfg(test)]
 mod tests;

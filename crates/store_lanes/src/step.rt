@@ -3,14 +3,16 @@ ghost use Rattle.std.specs.Prelude.{◌≡◌, ◌<◌, ◌∷◌, [], true};
 ghost use Rattle.store_desk.specs.Appended.{IsTaken};
 ghost use Rattle.store_lanes.specs.Lanes.{PartRan};
 ghost use Rattle.store_lanes.specs.Owned.{SameSeat};
+ghost use Rattle.store_lanes.specs.Posts.{seat_of};
 ghost use Rattle.store_lanes.specs.Served.{is_plain};
 
+use crate::post::Post;
 use disk_trait::Disk;
 use object_graph::{Call, Memory, Steps};
 use std::marker::Brand;
 use std::sync::Wait;
 use std::sync::ledger::{Blank, Ledger};
-use store_desk::{Desk, DeskSeat};
+use store_desk::{Desk, DeskHeld, DeskSeat};
 use store_model::is_refused;
 
 /// One call of a lane, whose steps nobody counts. Answers whether it was done, not refused.
@@ -54,4 +56,62 @@ fn step_over<W: Wait, D: Disk, L: Ledger>(
         Ok((reply, _)) => Ok(!is_refused(&reply)),
         Err(memory) => Err(memory),
     }
+}
+
+/// The same in a turn that the lane keeps.
+fn step_held<D: Disk>(
+    desk: &Desk<D>,
+    held: &mut DeskHeld<D>,
+    lane: u32,
+    call: Call,
+) -> Result<bool, Memory>
+    requires own { held.old.turn ≡ desk.now.turn }
+    requires taken { IsTaken call }
+    requires plain { is_plain call ≡ true }
+    ensures ran { PartRan D.Disk desk.now.value.start lane (call ∷ []) held.old held.new result }
+    ensures same { SameSeat held.old held.new }
+{
+    step_held_over::<D, Brand>(desk, held, lane, call, Blank::new(1))
+}
+
+fn step_held_over<D: Disk, L: Ledger>(
+    desk: &Desk<D>,
+    held: &mut DeskHeld<D>,
+    lane: u32,
+    call: Call,
+    blank: Blank,
+) -> Result<bool, Memory>
+    requires name { blank.name ≡ L.name }
+    requires parts { blank.parts ≡ L.parts }
+    requires some { 0 < blank.parts }
+    requires own { held.old.turn ≡ desk.now.turn }
+    requires taken { IsTaken call }
+    requires plain { is_plain call ≡ true }
+    ensures ran { PartRan D.Disk desk.now.value.start lane (call ∷ []) held.old held.new result }
+    ensures same { SameSeat held.old held.new }
+{
+    let mut steps: Steps<L> = Steps::new(blank);
+    match desk.call_held(held, lane, call, &mut steps) {
+        Ok((reply, _)) => Ok(!is_refused(&reply)),
+        Err(memory) => Err(memory),
+    }
+}
+
+/// The same in the lane's turn, which it takes where it keeps none, and may keep.
+pub fn step_in_turn<W: Wait, D: Disk>(
+    rt: &W,
+    desk: &Desk<D>,
+    post: Post<D>,
+    lane: u32,
+    call: Call,
+) -> (Post<D>, Result<bool, Memory>)
+    requires own { (seat_of post).turn ≡ desk.now.turn }
+    requires taken { IsTaken call }
+    requires plain { is_plain call ≡ true }
+    ensures ran { PartRan D.Disk desk.now.value.start lane (call ∷ []) (seat_of post) (seat_of result.0) result.1 }
+    ensures same { SameSeat (seat_of post) (seat_of result.0) }
+{
+    let (mut held, left) = post.in_turn(rt, desk);
+    let done = step_held(desk, &mut held, lane, call);
+    (Post::after_call(desk, held, left), done)
 }
