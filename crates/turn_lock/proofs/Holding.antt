@@ -4,7 +4,7 @@ use Rattle.atomic_table.specs.Table.{Me}
 use Rattle.atomic_table.specs.Seated.{TableId}
 use Rattle.turn_lock.specs.declared.view.View.{View}
 use Rattle.turn_lock.specs.Lists.{places}
-use Rattle.turn_lock.specs.Seats.{Known, known, grown, in_turn, Holds, Finds, Appends}
+use Rattle.turn_lock.specs.Seats.{Known, known, grown, in_turn, HasAtHand, Finds, Appends}
 use Rattle.turn_lock.specs.Turns.{HasValue}
 use Rattle.turn_lock.proofs.Lists.{starts_itself, starts_on, starts_length, places-append}
 
@@ -13,7 +13,7 @@ places_on k m n a b = let e : n - k ≡ (m - k) + (n - m) = omega (arith, a, b) 
     ap (places k) e ∙ (places-append k (m - k) (n - m) ∙ ap (λ (z : ℕ). places k (m - k) ++ places z (n - m)) d)
 
 module _ {T E B : Type 0} (id : TableId) (me : Me (Option T) (View E B)) (before : ℕ) (xs ys : List E) (b c : B) (has : HasValue me xs b before) where
-  pub holds_now : Holds xs b (in_turn id me.0 xs)
+  pub holds_now : HasAtHand xs b (in_turn id me.0 xs)
   holds_now = record { whole = refl; same_start = has.same_start }
 
   pub value_kept : Appends xs b ys c → HasValue me ys c before
@@ -35,5 +35,5 @@ module _ {T E B : Type 0} (id : TableId) (me : Me (Option T) (View E B)) (before
       ap (λ (ps : List ℕ). let s : Known E B = known id me.0 in let t : Known E B = record s { seen = ys; own = ps } in t) own
 
 -- what it has at hand it would also find
-pub found_in_turn : {E B : Type 0} (xs : List E) (b : B) (s : Known E B) → Holds xs b s → Finds xs b s
+pub found_in_turn : {E B : Type 0} (xs : List E) (b : B) (s : Known E B) → HasAtHand xs b s → Finds xs b s
 found_in_turn xs b s h = record { begins = starts_itself xs s.seen h.whole; same_start = h.same_start }

@@ -2,7 +2,7 @@
 ghost use Rattle.std.specs.Prelude.{◌≡◌, length};
 ghost use Rattle.std.specs.Fn.{FnOnceTakesAtMut, FnOnceReturnsAtMut};
 ghost use Rattle.turn_lock.specs.Calls.{TakesBeside, ReturnsBeside};
-ghost use Rattle.turn_lock.specs.Seats.{Appends, Holds, grown};
+ghost use Rattle.turn_lock.specs.Seats.{Appends, HasAtHand, grown};
 
 use crate::calls::{called, called_beside};
 use crate::kept::Kept;
@@ -33,9 +33,9 @@ impl<T: Kept> Model for Held<T> {
 impl<T: Kept> Held<T> {
     /// Calls with the value, and answers what the call answered. It doesn't wait.
     pub fn with<R, F: FnOnce(&mut T) -> R>(&mut self, call: F) -> R
-        requires may { (x : T) → Holds (T.list x) (T.start x) self.old → FnOnceTakesAtMut F.FnOnce call x }
-        requires appends { (x y : T) (r : R) → Holds (T.list x) (T.start x) self.old → FnOnceReturnsAtMut F.FnOnce call x r y → Appends (T.list x) (T.start x) (T.list y) (T.start y) }
-        ensures called { (x : T) × (y : T) × Holds (T.list x) (T.start x) self.old × FnOnceReturnsAtMut F.FnOnce call x result y × (self.new ≡ grown self.old (T.list x) (T.list y)) }
+        requires may { (x : T) → HasAtHand (T.list x) (T.start x) self.old → FnOnceTakesAtMut F.FnOnce call x }
+        requires appends { (x y : T) (r : R) → HasAtHand (T.list x) (T.start x) self.old → FnOnceReturnsAtMut F.FnOnce call x r y → Appends (T.list x) (T.start x) (T.list y) (T.start y) }
+        ensures called { (x : T) × (y : T) × HasAtHand (T.list x) (T.start x) self.old × FnOnceReturnsAtMut F.FnOnce call x result y × (self.new ≡ grown self.old (T.list x) (T.list y)) }
     {
         called(&mut self.value, call)
     }
@@ -46,9 +46,9 @@ impl<T: Kept> Held<T> {
         beside: &mut C,
         call: F,
     ) -> R
-        requires may { (x : T) → Holds (T.list x) (T.start x) self.old → TakesBeside F.FnOnce call x beside.old }
-        requires appends { (x y : T) (r : R) (z : C) → Holds (T.list x) (T.start x) self.old → ReturnsBeside F.FnOnce call x beside.old r y z → Appends (T.list x) (T.start x) (T.list y) (T.start y) }
-        ensures called { (x : T) × (y : T) × Holds (T.list x) (T.start x) self.old × ReturnsBeside F.FnOnce call x beside.old result y beside.new × (self.new ≡ grown self.old (T.list x) (T.list y)) }
+        requires may { (x : T) → HasAtHand (T.list x) (T.start x) self.old → TakesBeside F.FnOnce call x beside.old }
+        requires appends { (x y : T) (r : R) (z : C) → HasAtHand (T.list x) (T.start x) self.old → ReturnsBeside F.FnOnce call x beside.old r y z → Appends (T.list x) (T.start x) (T.list y) (T.start y) }
+        ensures called { (x : T) × (y : T) × HasAtHand (T.list x) (T.start x) self.old × ReturnsBeside F.FnOnce call x beside.old result y beside.new × (self.new ≡ grown self.old (T.list x) (T.list y)) }
     {
         called_beside(&mut self.value, beside, call)
     }
