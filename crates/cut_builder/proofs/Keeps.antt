@@ -19,7 +19,7 @@ use Rattle.cut_model.proofs.Openings.{get-replicate_same}
 use Rattle.cut_builder.specs.declared.column.KeptImage.{KeptImage}
 use Rattle.cut_builder.specs.declared.kept.KeptPages.TheInside.{Inside}
 use Rattle.cut_builder.specs.CutParts.{page_of, copied_of, before_of, as_page, IsOfItsPage, HasOneNameEach}
-use Rattle.cut_builder.specs.Kept.{kept_at, copy_of, change_of, cut_page_of, Kept, cut_page_at, cut_pages_of, before_kept, later, AreOn, AreImages, AreKept}
+use Rattle.cut_builder.specs.Kept.{kept_at, copy_of, change_of, cut_page_of, Kept, cut_page_at, cut_pages_of, before_kept, kept_later, AreOn, AreKeptImages, AreKept}
 
 -- what a cut has of a page, by what is kept of it
 pub length-cut : (k : Kept) → length (cut_pages_of k) ≡ length k.born
@@ -69,7 +69,7 @@ before_same : (c : PageCopy) → option_map (λ (i : KeptImage). i.image.slots) 
 before_same c = before_page c.before c.moment
 
 -- the after-image beside it
-pub later_same : (moment : ℕ) (after : Option KeptImage) → option_map change_of (later moment after) ≡ kept_beside moment (option_map change_of after)
+pub later_same : (moment : ℕ) (after : Option KeptImage) → option_map change_of (kept_later moment after) ≡ kept_beside moment (option_map change_of after)
 later_same moment None = refl
 later_same moment (Some a) = elim (cases_Bool (nat_lt moment a.moment)) [
   | inl y ↦ ap (λ b. option_map change_of (cond b (Some a) None)) y ∙ sym (ap (λ b. cond b (Some (change_of a)) None) y)
@@ -98,16 +98,16 @@ abbrev pub kept_copy : Kept → PageCopy → Kept
 kept_copy k c = record {
   current = set k.current c.page (Some (record { image = c.current; moment = c.moment }));
   before = set k.before c.page (before_kept c);
-  after = set k.after c.page (later c.moment (kept_at k.after c.page));
+  after = set k.after c.page (kept_later c.moment (kept_at k.after c.page));
   born = k.born;
 }
 
-pub copied_pages : (k : Kept) (c : PageCopy) → AreImages k → c.page < length k.born
+pub copied_pages : (k : Kept) (c : PageCopy) → AreKeptImages k → c.page < length k.born
     → cut_pages_of (kept_copy k c) ≡ set (cut_pages_of k) c.page (with_copy (copied_of c) (page_of (cut_pages_of k) c.page))
 copied_pages k c are within =
     let n : ℕ = length k.born in
     let current : Option KeptImage = Some (record { image = c.current; moment = c.moment }) in
-    let after : Option KeptImage = later c.moment (kept_at k.after c.page) in
+    let after : Option KeptImage = kept_later c.moment (kept_at k.after c.page) in
     let old : page_of (cut_pages_of k) c.page ≡ cut_page_at k c.page = cut_at k c.page bare_page within in
     changed k (kept_copy k c) c.page (with_copy (copied_of c) (page_of (cut_pages_of k) c.page)) refl within
     (same_page (kept_at (set k.current c.page current) c.page) current (kept_at (set k.before c.page (before_kept c)) c.page) (before_kept c)
@@ -128,19 +128,19 @@ before_on : (before : Option PageParts) (moment page : ℕ) → IfSome before (�
 before_on None moment page on = tt
 before_on (Some p) moment page on = on
 
-later_on : (moment page : ℕ) (after : Option KeptImage) → IfSome after (λ i. i.image.number ≡ page) → IfSome (later moment after) (λ i. i.image.number ≡ page)
+later_on : (moment page : ℕ) (after : Option KeptImage) → IfSome after (λ i. i.image.number ≡ page) → IfSome (kept_later moment after) (λ i. i.image.number ≡ page)
 later_on moment page None on = tt
 later_on moment page (Some a) on = elim (cases_Bool (nat_lt moment a.moment)) [
   | inl y ↦ subst (λ b. IfSome (cond b (Some a) None) (λ i. i.image.number ≡ page)) (sym y) on
   | inr n ↦ subst (λ b. IfSome (cond b (Some a) None) (λ i. i.image.number ≡ page)) (sym n) tt
 ]
 
-pub copied_images : (k : Kept) (c : PageCopy) → AreImages k → c.page < length k.born → IsOfItsPage c → AreImages (kept_copy k c)
+pub copied_images : (k : Kept) (c : PageCopy) → AreKeptImages k → c.page < length k.born → IsOfItsPage c → AreKeptImages (kept_copy k c)
 copied_images k c are within of =
     let current : Option KeptImage = Some (record { image = c.current; moment = c.moment }) in record {
       current = put_on k.current (length k.born) c.page current are.current within of.0;
       before = put_on k.before (length k.born) c.page (before_kept c) are.before within (before_on c.before c.moment c.page of.1);
-      after = put_on k.after (length k.born) c.page (later c.moment (kept_at k.after c.page)) are.after within (later_on c.moment c.page (kept_at k.after c.page) (are.after.each c.page));
+      after = put_on k.after (length k.born) c.page (kept_later c.moment (kept_at k.after c.page)) are.after within (later_on c.moment c.page (kept_at k.after c.page) (are.after.each c.page));
       beside = λ page none. dite (ℕ_discrete page c.page)
           (λ e. let there : kept_at (set k.current c.page current) page ≡ current = subst (λ (j : ℕ). kept_at (set k.current c.page current) j ≡ current) (sym e) (put_same k.current (length k.born) c.page current are.current within) in absurd cc)
           (λ n. put_other k.before c.page page (before_kept c) n ∙ are.beside page (sym (put_other k.current c.page page current n) ∙ none));
@@ -150,7 +150,7 @@ copied_images k c are within of =
 abbrev pub kept_after : Kept → PageParts → ℕ → Kept
 kept_after k image moment = record k { after = set k.after image.number (Some (record { image = image; moment = moment })) }
 
-pub changed_pages : (k : Kept) (image : PageParts) (moment : ℕ) → AreImages k → image.number < length k.born
+pub changed_pages : (k : Kept) (image : PageParts) (moment : ℕ) → AreKeptImages k → image.number < length k.born
     → cut_pages_of (kept_after k image moment)
     ≡ set (cut_pages_of k) image.number (with_commit image.slots moment (page_of (cut_pages_of k) image.number).born (page_of (cut_pages_of k) image.number))
 changed_pages k image moment are within =
@@ -162,7 +162,7 @@ changed_pages k image moment are within =
     ∙ ap (λ (p : CutPage). with_commit image.slots moment p.born p) (sym old))
     (λ other d. ap (λ (a : Option KeptImage). cut_page_of (kept_at k.current other) (kept_at k.before other) a (get_or k.born other 0)) (put_other k.after page other after d))
 
-pub changed_images : (k : Kept) (image : PageParts) (moment : ℕ) → AreImages k → image.number < length k.born → AreImages (kept_after k image moment)
+pub changed_images : (k : Kept) (image : PageParts) (moment : ℕ) → AreKeptImages k → image.number < length k.born → AreKeptImages (kept_after k image moment)
 changed_images k image moment are within = record {
   current = are.current;
   before = are.before;
@@ -181,7 +181,7 @@ born_pages k page born within =
     (ap (cut_page_of (kept_at k.current page) (kept_at k.before page) (kept_at k.after page)) (get_or-set_same k.born page born 0 within) ∙ ap (with_born born) (sym old))
     (λ other d. ap (cut_page_of (kept_at k.current other) (kept_at k.before other) (kept_at k.after other)) (get_or-set_other k.born page other born 0 d))
 
-pub born_images : (k : Kept) (page born : ℕ) → AreImages k → AreImages (kept_born k page born)
+pub born_images : (k : Kept) (page born : ℕ) → AreKeptImages k → AreKeptImages (kept_born k page born)
 born_images k page born are =
     let long = sym (length-set k.born page born) in record {
       current = subst (λ (n : ℕ). AreOn n k.current) long are.current;
@@ -218,7 +218,7 @@ none_on n = record {
   each = λ page. subst (λ (x : Option KeptImage). IfSome x (λ i. i.image.number ≡ page)) (sym (none_at n page)) tt;
 }
 
-pub no_images : (n : ℕ) → AreImages (kept_none n)
+pub no_images : (n : ℕ) → AreKeptImages (kept_none n)
 no_images n = record { current = none_on n; before = none_on n; after = none_on n; beside = λ page none. none_at n page }
 
 -- an image that is of a page

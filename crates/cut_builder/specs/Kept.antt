@@ -53,9 +53,9 @@ abbrev pub before_kept : PageCopy → Option KeptImage
 before_kept c = option_map (λ (p : PageParts). record { image = p; moment = c.moment }) c.before
 
 -- an after-image that stays beside a copy of this moment
-abbrev pub later : ℕ → Option KeptImage → Option KeptImage
-later moment None = None
-later moment (Some a) = if nat_lt moment a.moment then Some a else None
+abbrev pub kept_later : ℕ → Option KeptImage → Option KeptImage
+kept_later moment None = None
+kept_later moment (Some a) = if nat_lt moment a.moment then Some a else None
 
 -- an image for each of so many pages, if any, of its number
 pub record AreOn (pages : ℕ) (images : List (Option KeptImage)) : Type 0 where
@@ -63,7 +63,7 @@ pub record AreOn (pages : ℕ) (images : List (Option KeptImage)) : Type 0 where
   pub each : (page : ℕ) → IfSome (kept_at images page) (λ i. i.image.number ≡ page)
 
 -- the images are of their pages, and no before-image stands alone
-pub record AreImages (k : Kept) : Type 0 where
+pub record AreKeptImages (k : Kept) : Type 0 where
   pub current : AreOn (length k.born) k.current
   pub before : AreOn (length k.born) k.before
   pub after : AreOn (length k.born) k.after

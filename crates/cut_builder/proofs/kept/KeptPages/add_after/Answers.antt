@@ -1,7 +1,7 @@
 use Rattle.std.proofs.Common.{◌≡◌, ◌∙◌, ℕ, Option, Some, List, set, sym, subst, ap, arith}
 use Rattle.cut_model.specs.CutPages.{CutPage, with_commit}
 use Rattle.cut_builder.specs.CutParts.{page_of}
-use Rattle.cut_builder.specs.Kept.{cut_pages_of, AreImages}
+use Rattle.cut_builder.specs.Kept.{cut_pages_of, AreKeptImages}
 use Rattle.cut_builder.proofs.Keeps.{low, kept_in, kept_after, changed_pages, changed_images}
 use Rattle.cut_builder.proofs.kept.KeptPages.add_after.Goals as goal
 
@@ -17,7 +17,7 @@ invariant_of-self c =
     let image = c.args.image.now in
     let within = low k c.args.self.now image.number c.self.view_is c.requires in
     let kept : Option _ = Some (record { image = image; moment = c.args.moment }) in
-    subst (λ xs. AreImages (record k { after = xs })) (sym (c.set.ensures ∙ ap (λ (n : ℕ). set k.after n kept) c.number.ensures.value))
+    subst (λ xs. AreKeptImages (record k { after = xs })) (sym (c.set.ensures ∙ ap (λ (n : ℕ). set k.after n kept) c.number.ensures.value))
     (changed_images k image c.args.moment c.self.invariant within)
 
 pub returns : goal.returns

@@ -1,7 +1,7 @@
 use Rattle.std.proofs.Common.{◌≡◌, ◌∙◌, List, set, sym, subst, arith}
 use Rattle.cut_model.specs.CutPages.{CutPage, with_copy}
 use Rattle.cut_builder.specs.CutParts.{page_of, copied_of}
-use Rattle.cut_builder.specs.Kept.{Kept, cut_pages_of, AreImages}
+use Rattle.cut_builder.specs.Kept.{Kept, cut_pages_of, AreKeptImages}
 use Rattle.cut_builder.proofs.Keeps.{low, kept_in, kept_copy, copied_pages, copied_images}
 use Rattle.cut_builder.proofs.kept.KeptPages.add_copy.Goals as goal
 
@@ -27,7 +27,7 @@ invariant_of-self c =
     let within = low k c.args.self.now copy.page c.self.view_is c.requires.page in
     let new : Kept = record { current = c.set.new.self; before = c.put_before.new.before; after = c.keep_later.new.after; born = k.born } in
     let same : new ≡ kept_copy k copy = λ i. record { current = c.set.ensures i; before = c.put_before.ensures i; after = c.keep_later.ensures i; born = k.born } in
-    subst AreImages (sym same) (copied_images k copy c.self.invariant within c.requires.images)
+    subst AreKeptImages (sym same) (copied_images k copy c.self.invariant within c.requires.images)
 
 pub returns : goal.returns
 returns c =
