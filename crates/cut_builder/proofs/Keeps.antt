@@ -18,7 +18,7 @@ use Rattle.cut_model.specs.CutPages.{CopyParts, AfterImage, CutPage, bare_page, 
 use Rattle.cut_model.proofs.Openings.{get-replicate_same}
 use Rattle.cut_builder.specs.declared.column.KeptImage.{KeptImage}
 use Rattle.cut_builder.specs.declared.kept.KeptPages.TheInside.{Inside}
-use Rattle.cut_builder.specs.CutParts.{page_of, copied_of, before_of, as_page, IsOfItsPage, HasOneNameEach}
+use Rattle.cut_builder.specs.CutParts.{page_in_cut, copied_of, before_of, as_page, IsOfItsPage, HasOneNameEach}
 use Rattle.cut_builder.specs.Kept.{kept_at, copy_of, change_of, cut_page_of, Kept, cut_page_at, cut_pages_of, before_kept, kept_later, AreOn, AreKeptImages, AreKept}
 
 -- what a cut has of a page, by what is kept of it
@@ -37,8 +37,8 @@ abbrev pub kept_in : Inside → Kept
 kept_in inside = record { current = inside.current; before = inside.before; after = inside.after; born = inside.born.items }
 
 -- a page of the cut, by what is kept of it
-pub read_cut : (k : Kept) (pages : List CutPage) (page : ℕ) → cut_pages_of k ≡ pages → page < length pages → page_of pages page ≡ cut_page_at k page
-read_cut k pages page same within = ap (λ (ps : List CutPage). page_of ps page) (sym same) ∙ cut_at k page bare_page (low k pages page same within)
+pub read_cut : (k : Kept) (pages : List CutPage) (page : ℕ) → cut_pages_of k ≡ pages → page < length pages → page_in_cut pages page ≡ cut_page_at k page
+read_cut k pages page same within = ap (λ (ps : List CutPage). page_in_cut ps page) (sym same) ∙ cut_at k page bare_page (low k pages page same within)
 
 -- where one page is kept otherwise, the cut has another page in its place
 pub changed : (k new : Kept) (page : ℕ) (p : CutPage) → length new.born ≡ length k.born → page < length k.born → cut_page_at new page ≡ p
@@ -103,13 +103,13 @@ kept_copy k c = record {
 }
 
 pub copied_pages : (k : Kept) (c : PageCopy) → AreKeptImages k → c.page < length k.born
-    → cut_pages_of (kept_copy k c) ≡ set (cut_pages_of k) c.page (with_copy (copied_of c) (page_of (cut_pages_of k) c.page))
+    → cut_pages_of (kept_copy k c) ≡ set (cut_pages_of k) c.page (with_copy (copied_of c) (page_in_cut (cut_pages_of k) c.page))
 copied_pages k c are within =
     let n : ℕ = length k.born in
     let current : Option KeptImage = Some (record { image = c.current; moment = c.moment }) in
     let after : Option KeptImage = kept_later c.moment (kept_at k.after c.page) in
-    let old : page_of (cut_pages_of k) c.page ≡ cut_page_at k c.page = cut_at k c.page bare_page within in
-    changed k (kept_copy k c) c.page (with_copy (copied_of c) (page_of (cut_pages_of k) c.page)) refl within
+    let old : page_in_cut (cut_pages_of k) c.page ≡ cut_page_at k c.page = cut_at k c.page bare_page within in
+    changed k (kept_copy k c) c.page (with_copy (copied_of c) (page_in_cut (cut_pages_of k) c.page)) refl within
     (same_page (kept_at (set k.current c.page current) c.page) current (kept_at (set k.before c.page (before_kept c)) c.page) (before_kept c)
     (kept_at (set k.after c.page after) c.page) after (get_or k.born c.page 0) (get_or k.born c.page 0)
     (put_same k.current n c.page current are.current within) (put_same k.before n c.page (before_kept c) are.before within) (put_same k.after n c.page after are.after within) refl
@@ -152,12 +152,12 @@ kept_after k image moment = record k { after = set k.after image.number (Some (r
 
 pub changed_pages : (k : Kept) (image : PageParts) (moment : ℕ) → AreKeptImages k → image.number < length k.born
     → cut_pages_of (kept_after k image moment)
-    ≡ set (cut_pages_of k) image.number (with_commit image.slots moment (page_of (cut_pages_of k) image.number).born (page_of (cut_pages_of k) image.number))
+    ≡ set (cut_pages_of k) image.number (with_commit image.slots moment (page_in_cut (cut_pages_of k) image.number).born (page_in_cut (cut_pages_of k) image.number))
 changed_pages k image moment are within =
     let page : ℕ = image.number in
     let after : Option KeptImage = Some (record { image = image; moment = moment }) in
-    let old : page_of (cut_pages_of k) page ≡ cut_page_at k page = cut_at k page bare_page within in
-    changed k (kept_after k image moment) page (with_commit image.slots moment (page_of (cut_pages_of k) page).born (page_of (cut_pages_of k) page)) refl within
+    let old : page_in_cut (cut_pages_of k) page ≡ cut_page_at k page = cut_at k page bare_page within in
+    changed k (kept_after k image moment) page (with_commit image.slots moment (page_in_cut (cut_pages_of k) page).born (page_in_cut (cut_pages_of k) page)) refl within
     (ap (λ (a : Option KeptImage). cut_page_of (kept_at k.current page) (kept_at k.before page) a (get_or k.born page 0)) (put_same k.after (length k.born) page after are.after within)
     ∙ ap (λ (p : CutPage). with_commit image.slots moment p.born p) (sym old))
     (λ other d. ap (λ (a : Option KeptImage). cut_page_of (kept_at k.current other) (kept_at k.before other) a (get_or k.born other 0)) (put_other k.after page other after d))
@@ -174,10 +174,10 @@ changed_images k image moment are within = record {
 abbrev pub kept_born : Kept → ℕ → ℕ → Kept
 kept_born k page born = record k { born = set k.born page born }
 
-pub born_pages : (k : Kept) (page born : ℕ) → page < length k.born → cut_pages_of (kept_born k page born) ≡ set (cut_pages_of k) page (with_born born (page_of (cut_pages_of k) page))
+pub born_pages : (k : Kept) (page born : ℕ) → page < length k.born → cut_pages_of (kept_born k page born) ≡ set (cut_pages_of k) page (with_born born (page_in_cut (cut_pages_of k) page))
 born_pages k page born within =
-    let old : page_of (cut_pages_of k) page ≡ cut_page_at k page = cut_at k page bare_page within in
-    changed k (kept_born k page born) page (with_born born (page_of (cut_pages_of k) page)) (length-set k.born page born) within
+    let old : page_in_cut (cut_pages_of k) page ≡ cut_page_at k page = cut_at k page bare_page within in
+    changed k (kept_born k page born) page (with_born born (page_in_cut (cut_pages_of k) page)) (length-set k.born page born) within
     (ap (cut_page_of (kept_at k.current page) (kept_at k.before page) (kept_at k.after page)) (get_or-set_same k.born page born 0 within) ∙ ap (with_born born) (sym old))
     (λ other d. ap (cut_page_of (kept_at k.current other) (kept_at k.before other) (kept_at k.after other)) (get_or-set_other k.born page other born 0 d))
 
@@ -190,7 +190,7 @@ born_images k page born are =
       beside = are.beside;
     }
 
-pub born_is : (k : Kept) (page born : ℕ) → page < length k.born → (page_of (cut_pages_of (kept_born k page born)) page).born ≡ born
+pub born_is : (k : Kept) (page born : ℕ) → page < length k.born → (page_in_cut (cut_pages_of (kept_born k page born)) page).born ≡ born
 born_is k page born within =
     ap (λ (p : CutPage). p.born) (cut_at (kept_born k page born) page bare_page (let l = length-set k.born page born in omega (arith, l, within)))
     ∙ get_or-set_same k.born page born 0 within
@@ -290,21 +290,21 @@ fewer_names pages after fewer names = record {
 
 -- what is born changes no image
 born_objects : (pages : List CutPage) (page born k : ℕ) (o : ObjectParts) → page < length pages
-    → In o (objects_on k (page_of (set pages page (with_born born (page_of pages page))) k)) → In o (objects_on k (page_of pages k))
+    → In o (objects_on k (page_in_cut (set pages page (with_born born (page_in_cut pages page))) k)) → In o (objects_on k (page_in_cut pages k))
 born_objects pages page born k o within m =
-    let p : CutPage = with_born born (page_of pages page) in
+    let p : CutPage = with_born born (page_in_cut pages page) in
     dite (ℕ_discrete k page)
-    (λ e. let m : In o (objects_on k (page_of (set pages page p) page)) = subst (λ j. In o (objects_on k (page_of (set pages page p) j))) e m in
-    subst (λ j. In o (objects_on k (page_of pages j))) (sym e) (subst (λ (q : CutPage). In o (objects_on k q)) (get_or-set_same pages page p bare_page within) m))
+    (λ e. let m : In o (objects_on k (page_in_cut (set pages page p) page)) = subst (λ j. In o (objects_on k (page_in_cut (set pages page p) j))) e m in
+    subst (λ j. In o (objects_on k (page_in_cut pages j))) (sym e) (subst (λ (q : CutPage). In o (objects_on k q)) (get_or-set_same pages page p bare_page within) m))
     (λ n. subst (λ (q : CutPage). In o (objects_on k q)) (get_or-set_other pages page k p bare_page n) m)
 
-born_names : (pages : List CutPage) (page born : ℕ) → page < length pages → HasOneNameEach pages → HasOneNameEach (set pages page (with_born born (page_of pages page)))
+born_names : (pages : List CutPage) (page born : ℕ) → page < length pages → HasOneNameEach pages → HasOneNameEach (set pages page (with_born born (page_in_cut pages page)))
 born_names pages page born within =
-    let after : List CutPage = set pages page (with_born born (page_of pages page)) in
+    let after : List CutPage = set pages page (with_born born (page_in_cut pages page)) in
     fewer_names pages after (λ o m.
-    let a = in_flat (λ (k : ℕ). objects_on k (page_of after k)) (below (length after)) o m in
-    flat_in (λ (k : ℕ). objects_on k (page_of pages k)) (below (length pages)) a.0 o
-    (subst (λ n. In a.0 (below n)) (length-set pages page (with_born born (page_of pages page))) a.1) (born_objects pages page born a.0 o within a.2))
+    let a = in_flat (λ (k : ℕ). objects_on k (page_in_cut after k)) (below (length after)) o m in
+    flat_in (λ (k : ℕ). objects_on k (page_in_cut pages k)) (below (length pages)) a.0 o
+    (subst (λ n. In a.0 (below n)) (length-set pages page (with_born born (page_in_cut pages page))) a.1) (born_objects pages page born a.0 o within a.2))
 
 -- the invariant stays where the names do
 keeps : (pages : List CutPage) (page : ℕ) (p : CutPage) → AreKept pages → HasOneNameEach (set pages page p) → AreKept (set pages page p)
@@ -314,13 +314,13 @@ keeps pages page p kept names = record {
   names = names;
 }
 
-pub keeps_born : (pages : List CutPage) (page born : ℕ) → AreKept pages → page < length pages → AreKept (set pages page (with_born born (page_of pages page)))
-keeps_born pages page born kept within = keeps pages page (with_born born (page_of pages page)) kept (born_names pages page born within kept.names)
+pub keeps_born : (pages : List CutPage) (page born : ℕ) → AreKept pages → page < length pages → AreKept (set pages page (with_born born (page_in_cut pages page)))
+keeps_born pages page born kept within = keeps pages page (with_born born (page_in_cut pages page)) kept (born_names pages page born within kept.names)
 
 -- as nothing is copied yet
 no_objects : (n : ℕ) (o : ObjectParts) → ¬ In o (cut_graph (replicate n bare_page))
 no_objects n o m =
-    let a = in_flat (λ (k : ℕ). objects_on k (page_of (replicate n bare_page) k)) (below (length (replicate n bare_page))) o m in
+    let a = in_flat (λ (k : ℕ). objects_on k (page_in_cut (replicate n bare_page) k)) (below (length (replicate n bare_page))) o m in
     subst (λ (p : CutPage). In o (objects_on a.0 p)) (get-replicate_same n a.0 bare_page) a.2
 
 pub keeps_none : (n : ℕ) → 0 < n → n ≤ MOST_PAGES → AreKept (replicate n bare_page)

@@ -20,7 +20,7 @@ use Rattle.page_image.specs.Pages.{PageParts}
 use Rattle.page_image.specs.declared.page_copy.PageCopy.{PageCopy}
 use Rattle.cut_model.specs.CutPages.{CopyParts, AfterImage, CutPage, bare_page, images_of, images_of_after, images_of_copy, images_of_before, objects_on, kept_beside, with_copy, with_commit, with_born, cut_graph}
 use Rattle.cut_model.proofs.Openings.{get-replicate_same}
-use Rattle.cut_builder.specs.CutParts.{CutParts, page_of, with_page, copied_of, HasOneNameEach, IsLater}
+use Rattle.cut_builder.specs.CutParts.{CutParts, page_in_cut, with_cut_page, copied_of, HasOneNameEach, IsLater}
 use Rattle.cut_builder.specs.Young.{IsYoung, AreYoung, IsYoungCut, IsYoungCopy}
 
 -- a slot in use is one of the image
@@ -40,8 +40,8 @@ young_object page image o young m =
 
 first_of_place : (pages : List CutPage) (o : ObjectParts) → AreYoung pages → In o (cut_graph pages) → o.name.generation ≡ 1
 first_of_place pages o young m =
-    let a = in_flat (λ (page : ℕ). objects_on page (page_of pages page)) (below (length pages)) o m in
-    let b = in_flat (objects_of a.0) (images_of (page_of pages a.0)) o a.2 in
+    let a = in_flat (λ (page : ℕ). objects_on page (page_in_cut pages page)) (below (length pages)) o m in
+    let b = in_flat (objects_of a.0) (images_of (page_in_cut pages a.0)) o a.2 in
     young_object a.0 b.0 o (young.each a.0 b.0 b.1) b.2
 
 same_name : (a b : NameParts) → a.page ≡ b.page → a.slot ≡ b.slot → a.generation ≡ b.generation → a ≡ b
@@ -57,14 +57,14 @@ young_names pages young = record {
 replaced : (pages : List CutPage) (page : ℕ) (p : CutPage) → page < length pages → AreYoung pages → ((image : List SlotParts) → In image (images_of p) → IsYoung image) → AreYoung (set pages page p)
 replaced pages page p within young new = record {
   each = λ k image m. dite (ℕ_discrete k page)
-      (λ e. new image (subst (λ (q : CutPage). In image (images_of q)) (ap (page_of (set pages page p)) e ∙ get_or-set_same pages page p bare_page within) m))
+      (λ e. new image (subst (λ (q : CutPage). In image (images_of q)) (ap (page_in_cut (set pages page p)) e ∙ get_or-set_same pages page p bare_page within) m))
       (λ n. young.each k image (subst (λ (q : CutPage). In image (images_of q)) (get_or-set_other pages page k p bare_page n) m));
 }
 
-replaced_early : (pages : List CutPage) (page commits : ℕ) (p : CutPage) → page < length pages → ((k : ℕ) → IsLater commits (page_of pages k)) → IsLater commits p
-    → (k : ℕ) → IsLater commits (page_of (set pages page p) k)
+replaced_early : (pages : List CutPage) (page commits : ℕ) (p : CutPage) → page < length pages → ((k : ℕ) → IsLater commits (page_in_cut pages k)) → IsLater commits p
+    → (k : ℕ) → IsLater commits (page_in_cut (set pages page p) k)
 replaced_early pages page commits p within early new k = dite (ℕ_discrete k page)
-    (λ e. subst (IsLater commits) (sym (ap (page_of (set pages page p)) e ∙ get_or-set_same pages page p bare_page within)) new)
+    (λ e. subst (IsLater commits) (sym (ap (page_in_cut (set pages page p)) e ∙ get_or-set_same pages page p bare_page within)) new)
     (λ n. subst (IsLater commits) (sym (get_or-set_other pages page k p bare_page n)) (early k))
 
 kept_in : (keep : Bool) (a : AfterImage) (image : List SlotParts) → In image (images_of_after (if keep then Some a else None)) → In image (images_of_after (Some a))
@@ -84,9 +84,9 @@ before_young None image h e = cc
 before_young (Some p) image h e = let q : p.slots ≡ image = cc in subst IsYoung q h
 
 young_copy : (pages : List CutPage) (page commits : ℕ) (c : PageCopy) → page < length pages → AreYoung pages → IsYoungCopy c commits
-    → AreYoung (set pages page (with_copy (copied_of c) (page_of pages page)))
+    → AreYoung (set pages page (with_copy (copied_of c) (page_in_cut pages page)))
 young_copy pages page commits c within young is =
-    let p : CutPage = page_of pages page in
+    let p : CutPage = page_in_cut pages page in
     replaced pages page (with_copy (copied_of c) p) within young (λ image m. elim (in_append (images_of_after (kept_beside c.moment p.after)) (images_of_copy (Some (copied_of c))) image m) [
       | inl a ↦ young.each page image (append_left (images_of_after p.after) (images_of_copy p.copy) image (kept_change c.moment p.after image a))
       | inr b ↦ elim b [
@@ -105,20 +105,20 @@ early_change moment commits (Some a) h = early_kept (nat_lt moment a.moment) a c
 
 -- a copy is added
 pub copied_young : (cut : CutParts) (pages commits : ℕ) (c : PageCopy) → c.page < length cut.pages → IsYoungCut cut pages commits → IsYoungCopy c commits
-    → IsYoungCut (with_page cut c.page (with_copy (copied_of c) (page_of cut.pages c.page))) pages commits
+    → IsYoungCut (with_cut_page cut c.page (with_copy (copied_of c) (page_in_cut cut.pages c.page))) pages commits
 copied_young cut pages commits c within is young = record {
-  count = length-set cut.pages c.page (with_copy (copied_of c) (page_of cut.pages c.page)) ∙ is.count;
+  count = length-set cut.pages c.page (with_copy (copied_of c) (page_in_cut cut.pages c.page)) ∙ is.count;
   started = is.started;
   young = young_copy cut.pages c.page commits c within is.young young;
-  early = replaced_early cut.pages c.page (commits + 1) (with_copy (copied_of c) (page_of cut.pages c.page)) within is.early
-      (subst (λ m. m < commits + 1) (sym young.moment) (omega arith), early_change c.moment (commits + 1) (page_of cut.pages c.page).after (is.early c.page).1);
+  early = replaced_early cut.pages c.page (commits + 1) (with_copy (copied_of c) (page_in_cut cut.pages c.page)) within is.early
+      (subst (λ m. m < commits + 1) (sym young.moment) (omega arith), early_change c.moment (commits + 1) (page_in_cut cut.pages c.page).after (is.early c.page).1);
 }
 
 -- slots in which objects were made are added
 pub born_young : (cut : CutParts) (pages commits page born : ℕ) → page < length cut.pages → IsYoungCut cut pages commits
-    → IsYoungCut (with_page cut page (with_born born (page_of cut.pages page))) pages commits
+    → IsYoungCut (with_cut_page cut page (with_born born (page_in_cut cut.pages page))) pages commits
 born_young cut pages commits page born within is =
-    let p : CutPage = with_born born (page_of cut.pages page) in record {
+    let p : CutPage = with_born born (page_in_cut cut.pages page) in record {
       count = length-set cut.pages page p ∙ is.count;
       started = is.started;
       young = replaced cut.pages page p within is.young (is.young.each page);
@@ -126,9 +126,9 @@ born_young cut pages commits page born within is =
     }
 
 young_after : (pages : List CutPage) (page moment born : ℕ) (after : List SlotParts) → page < length pages → AreYoung pages → IsYoung after
-    → AreYoung (set pages page (with_commit after moment born (page_of pages page)))
+    → AreYoung (set pages page (with_commit after moment born (page_in_cut pages page)))
 young_after pages page moment born after within young new =
-    let p : CutPage = page_of pages page in
+    let p : CutPage = page_in_cut pages page in
     replaced pages page (with_commit after moment born p) within young (λ image m. elim m [
       | inl e ↦ subst IsYoung (sym e) new
       | inr r ↦ young.each page image (append_right (images_of_after p.after) (images_of_copy p.copy) image r)
@@ -147,11 +147,11 @@ later_page p low high h m = (later_copy p.copy low high h m.0, later_change p.af
 
 -- the image after the next commit is added
 pub changed_young : (cut : CutParts) (pages commits : ℕ) (image : PageParts) → image.number < length cut.pages → IsYoungCut cut pages commits → IsYoung image.slots
-    → IsYoungCut (with_page cut image.number (with_commit image.slots (commits + 1) (page_of cut.pages image.number).born (page_of cut.pages image.number))) pages (commits + 1)
+    → IsYoungCut (with_cut_page cut image.number (with_commit image.slots (commits + 1) (page_in_cut cut.pages image.number).born (page_in_cut cut.pages image.number))) pages (commits + 1)
 changed_young cut pages commits image within is young =
-    let p : CutPage = page_of cut.pages image.number in
+    let p : CutPage = page_in_cut cut.pages image.number in
     let q : CutPage = with_commit image.slots (commits + 1) p.born p in
-    let later : (k : ℕ) → IsLater (commits + 1 + 1) (page_of cut.pages k) = λ k. later_page (page_of cut.pages k) (commits + 1) (commits + 1 + 1) (omega arith) (is.early k) in
+    let later : (k : ℕ) → IsLater (commits + 1 + 1) (page_in_cut cut.pages k) = λ k. later_page (page_in_cut cut.pages k) (commits + 1) (commits + 1 + 1) (omega arith) (is.early k) in
     record {
       count = length-set cut.pages image.number q ∙ is.count;
       started = (let h = is.started in omega (arith, h));

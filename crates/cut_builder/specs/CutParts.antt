@@ -28,16 +28,16 @@ pub record MarkedParts : Type 0 where
   pub marks : List ℕ
 
 -- where the paths to what is marked start
-abbrev pub starts_of : ClosedParts → List NameParts
-starts_of cut = root_name ∷ []
+abbrev pub cut_starts : ClosedParts → List NameParts
+cut_starts cut = root_name ∷ []
 
 -- what a cut has of a page
-abbrev pub page_of : List CutPage → ℕ → CutPage
-page_of pages page = slice_index_or pages page bare_page
+abbrev pub page_in_cut : List CutPage → ℕ → CutPage
+page_in_cut pages page = slice_index_or pages page bare_page
 
 -- a cut with another page in place of one
-abbrev pub with_page : CutParts → ℕ → CutPage → CutParts
-with_page cut page p = record cut { pages = slice_set cut.pages page p }
+abbrev pub with_cut_page : CutParts → ℕ → CutPage → CutParts
+with_cut_page cut page p = record cut { pages = slice_set cut.pages page p }
 
 -- the marked slots of a page
 abbrev pub marks_of : List ℕ → ℕ → ℕ
@@ -68,13 +68,13 @@ IsLater moment p = IfSome p.copy (λ c. c.moment < moment) × IfSome p.after (λ
 
 -- each page has a copy
 abbrev pub AreCopied : List CutPage → Type 0
-AreCopied pages = (page : ℕ) → page < length pages → is_some (page_of pages page).copy ≡ true
+AreCopied pages = (page : ℕ) → page < length pages → is_some (page_in_cut pages page).copy ≡ true
 
 -- the least page without a copy
 pub record IsFirstUncopied (pages : List CutPage) (page : ℕ) : Type 0 where
   pub within : page < length pages
-  pub uncopied : is_some (page_of pages page).copy ≡ false
-  pub least : (before : ℕ) → before < page → is_some (page_of pages before).copy ≡ true
+  pub uncopied : is_some (page_in_cut pages page).copy ≡ false
+  pub least : (before : ℕ) → before < page → is_some (page_in_cut pages before).copy ≡ true
 
 -- an image of a page: 0 the current one, 1 the one before, 2 the one after
 abbrev pub before_of : Option CopyParts → Option (List SlotParts)
@@ -92,4 +92,4 @@ as_page page slots = record { number = page; slots = slots }
 
 -- the sets are exactly the marks
 abbrev pub HasExactMarks : MarkedParts → Type 0
-HasExactMarks m = AreMarks (starts_of m.cut) m.cut.pages (marks_of m.marks)
+HasExactMarks m = AreMarks (cut_starts m.cut) m.cut.pages (marks_of m.marks)

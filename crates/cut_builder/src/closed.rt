@@ -3,7 +3,7 @@ ghost use Rattle.std.specs.Prelude.{◌≡◌, ℕ, ◌<◌, ◌≤◌, Some, le
 ghost use Rattle.std.specs.Option.{option_copied};
 ghost use Rattle.cut_model.specs.CutPages.{settled_image};
 ghost use Rattle.cut_model.specs.Doomed.{AreMarks};
-ghost use Rattle.cut_builder.specs.CutParts.{page_of, image_of, as_page, starts_of, marks_of, HasOneNameEach, AreCopied};
+ghost use Rattle.cut_builder.specs.CutParts.{page_in_cut, image_of, as_page, cut_starts, marks_of, HasOneNameEach, AreCopied};
 ghost use Rattle.cut_builder.specs.Kept.{AreClosed};
 
 use crate::kept::KeptPages;
@@ -69,7 +69,7 @@ impl ClosedCut {
     #[inline(always)]
     pub fn image(&self, page: u32, which: u32) -> Option<&Page>
         requires { page < length self.now.pages }
-        ensures { option_copied result ≡ option_map (as_page page) (image_of (page_of self.now.pages page) which) }
+        ensures { option_copied result ≡ option_map (as_page page) (image_of (page_in_cut self.now.pages page) which) }
     {
         self.pages.image(page, which)
     }
@@ -78,7 +78,7 @@ impl ClosedCut {
     #[inline(always)]
     pub fn settled(&self, page: u32) -> &Page
         requires { page < length self.now.pages }
-        ensures image { settled_image (page_of self.now.pages page) ≡ Some result.now.slots }
+        ensures image { settled_image (page_in_cut self.now.pages page) ≡ Some result.now.slots }
         ensures number { result.now.number ≡ page }
     {
         self.pages.settled(page)
@@ -88,7 +88,7 @@ impl ClosedCut {
     #[inline(always)]
     pub fn born(&self, page: u32) -> SlotSet
         requires { page < length self.now.pages }
-        ensures { result ≡ (page_of self.now.pages page).born }
+        ensures { result ≡ (page_in_cut self.now.pages page).born }
     {
         self.pages.born(page)
     }
@@ -96,7 +96,7 @@ impl ClosedCut {
     /// The cut with its marks, a set for each page.
     pub fn with_marks(self, marks: Vec<SlotSet>) -> MarkedCut
         requires count { length marks.items ≡ length self.pages }
-        requires exact { AreMarks (starts_of self) self.pages (marks_of marks.items) }
+        requires exact { AreMarks (cut_starts self) self.pages (marks_of marks.items) }
         ensures { result ≡ record { cut = self; marks = marks.items } }
     {
         MarkedCut::of(self, marks)

@@ -3,7 +3,7 @@ ghost use Rattle.std.specs.Prelude.{◌≡◌, ℕ, ◌<◌, ◌≤◌, ◌||◌
 ghost use Rattle.std.specs.Option.{is_some};
 ghost use Rattle.object_graph.specs.Slots.{has_slot};
 ghost use Rattle.cut_model.specs.CutPages.{bare_page, with_copy, with_commit, with_born};
-ghost use Rattle.cut_builder.specs.CutParts.{page_of, with_page, copied_of, IsOfItsPage, HasOneNameEach, IsLater, AreCopied, IsFirstUncopied};
+ghost use Rattle.cut_builder.specs.CutParts.{page_in_cut, with_cut_page, copied_of, IsOfItsPage, HasOneNameEach, IsLater, AreCopied, IsFirstUncopied};
 
 use crate::closed::ClosedCut;
 use crate::kept::KeptPages;
@@ -67,11 +67,11 @@ impl Cut {
     /// copy.
     pub fn add_copy(&mut self, copy: &PageCopy)
         requires page { copy.now.page < length self.old.pages }
-        requires uncopied { is_some (page_of self.old.pages copy.now.page).copy ≡ false }
+        requires uncopied { is_some (page_in_cut self.old.pages copy.now.page).copy ≡ false }
         requires moment { self.old.start ≤ copy.now.moment }
         requires images { IsOfItsPage copy.now }
-        requires names { HasOneNameEach (with_page self.old copy.now.page (with_copy (copied_of copy.now) (page_of self.old.pages copy.now.page))).pages }
-        ensures { self.new ≡ with_page self.old copy.now.page (with_copy (copied_of copy.now) (page_of self.old.pages copy.now.page)) }
+        requires names { HasOneNameEach (with_cut_page self.old copy.now.page (with_copy (copied_of copy.now) (page_in_cut self.old.pages copy.now.page))).pages }
+        ensures { self.new ≡ with_cut_page self.old copy.now.page (with_copy (copied_of copy.now) (page_in_cut self.old.pages copy.now.page)) }
     {
         self.pages.add_copy(copy);
     }
@@ -79,7 +79,7 @@ impl Cut {
     /// Whether the page has a copy.
     pub fn is_copied(&self, page: u32) -> bool
         requires { page < length self.now.pages }
-        ensures { result ≡ is_some (page_of self.now.pages page).copy }
+        ensures { result ≡ is_some (page_in_cut self.now.pages page).copy }
     {
         self.pages.is_copied(page)
     }
@@ -88,9 +88,9 @@ impl Cut {
     /// after-image.
     pub fn add_after(&mut self, image: &Page, moment: u64)
         requires page { image.now.number < length self.old.pages }
-        requires moment { IsLater moment (page_of self.old.pages image.now.number) }
-        requires names { let p = page_of self.old.pages image.now.number in HasOneNameEach (with_page self.old image.now.number (with_commit image.now.slots moment p.born p)).pages }
-        ensures { let p = page_of self.old.pages image.now.number in self.new ≡ with_page self.old image.now.number (with_commit image.now.slots moment p.born p) }
+        requires moment { IsLater moment (page_in_cut self.old.pages image.now.number) }
+        requires names { let p = page_in_cut self.old.pages image.now.number in HasOneNameEach (with_cut_page self.old image.now.number (with_commit image.now.slots moment p.born p)).pages }
+        ensures { let p = page_in_cut self.old.pages image.now.number in self.new ≡ with_cut_page self.old image.now.number (with_commit image.now.slots moment p.born p) }
     {
         self.pages.add_after(image, moment);
     }
@@ -98,8 +98,8 @@ impl Cut {
     /// Adds slots of a page in which objects were made since the cut opened.
     pub fn add_born(&mut self, page: u32, slots: SlotSet)
         requires { page < length self.old.pages }
-        ensures cut { self.new ≡ with_page self.old page (with_born (page_of self.new.pages page).born (page_of self.old.pages page)) }
-        ensures born { (s : ℕ) → has_slot (page_of self.new.pages page).born s ≡ (has_slot (page_of self.old.pages page).born s || has_slot slots s) }
+        ensures cut { self.new ≡ with_cut_page self.old page (with_born (page_in_cut self.new.pages page).born (page_in_cut self.old.pages page)) }
+        ensures born { (s : ℕ) → has_slot (page_in_cut self.new.pages page).born s ≡ (has_slot (page_in_cut self.old.pages page).born s || has_slot slots s) }
     {
         self.pages.add_born(page, slots);
     }

@@ -24,19 +24,19 @@ use Rattle.store_model.proofs.OpenedWorlds.{opened_shows}
 use Rattle.store_model.proofs.ShownWorlds.{page_shown, shows_images}
 use Rattle.store_model.specs.States.{State}
 use Rattle.store_model.proofs.FoundStates.{states_still}
-use Rattle.image_model.specs.Opening.{StoreParts, images_of}
+use Rattle.image_model.specs.Opening.{StoreParts, store_images}
 use Rattle.image_model.specs.Stores.{IsStore}
 use Rattle.image_model.specs.Stands.{StandsForWorld, IsStoreOf, world_held, all_shown_by}
 use Rattle.image_model.proofs.Doubts.{stands_as_before}
 use Rattle.image_model.proofs.States.{lawful_state}
-use Rattle.transactions.specs.Standing.{TransactionsParts, IsReady, Stands as AreTransactionsOf}
+use Rattle.transactions.specs.Standing.{TransactionsParts, IsReady, AreTransactionsOf}
 use Rattle.transactions.proofs.Unseen.{stands_same, stands_idle}
 use Rattle.object_graph.specs.declared.limits.TheConstants.{MOST_PAGES}
 use Rattle.cut_model.specs.Standing.{IsCutStanding}
 use Rattle.cut_core.specs.Holding.{Holds, IsHeld, beside_of}
 use Rattle.cut_core.specs.declared.held.Held.{Held}
 use Rattle.cut_core.proofs.Holding.{refused_holds}
-use Rattle.cut_core.specs.Reopening.{HasNoCut, Finds, IsReopened, IsFound, Happens}
+use Rattle.cut_core.specs.Reopening.{HasNoCut, FindsNames, IsReopened, IsFound, Happens}
 use Rattle.cut_core.specs.Standing.{KeepsWorld, Stands}
 use Rattle.cut_core.specs.declared.store.Store.{Store}
 use Rattle.image_model.specs.Opening.{Fault}
@@ -67,7 +67,7 @@ file_still w count file h = record { state = h.state; found = states_still w cou
 same_held : (file : List ℕ) (a b : StoreParts) → IsStore file a → IsStore file b → a ≡ b
 same_held file a b ha hb = let e = sym ha.opens ∙ hb.opens in cc
 
-pub finds_again : (w : World) (file : List ℕ) (held : StoreParts) → IsStore file held → StandsForWorld file w → Finds w held
+pub finds_again : (w : World) (file : List ℕ) (held : StoreParts) → IsStore file held → StandsForWorld file w → FindsNames w held
 finds_again w file held h s =
     let f = s.found in
     let same : s.stands.content ≡ held = same_held file s.stands.content held s.stands.store h in
@@ -75,12 +75,12 @@ finds_again w file held h s =
     record {
       names = f.names_found;
       may = subst (λ n. MayReopen w w.doubt n f.names_found) count f.may;
-      shows = ap images_of (sym same) ∙ (s.stands.shows ∙ (ap (all_shown_by w.pages) f.is ∙ ap (λ n. all_shown (reopened w n f.names_found)) count));
+      shows = ap store_images (sym same) ∙ (s.stands.shows ∙ (ap (all_shown_by w.pages) f.is ∙ ap (λ n. all_shown (reopened w n f.names_found)) count));
     }
 
 -- ---- the worlds after
 
-module _ (w : World) (held : StoreParts) (f : Finds w held) (lawful : IsLawful w) (fields : HaveFields (fields_of w) w.graph) where
+module _ (w : World) (held : StoreParts) (f : FindsNames w held) (lawful : IsLawful w) (fields : HaveFields (fields_of w) w.graph) where
   abbrev pub after_world : World
   after_world = reopened w held.commits f.names
 
@@ -93,16 +93,16 @@ module _ (w : World) (held : StoreParts) (f : Finds w held) (lawful : IsLawful w
   fields_after : HaveFields (fields_of after_world) after_world.graph
   fields_after = event_keeps_fields w (record { entry = record { lane = 1; call = Reopen; reply = Reopened held.commits }; note = found f.names }) fields
 
-  are_images : AreImages (images_of held)
+  are_images : AreImages (store_images held)
   are_images = subst AreImages (sym f.shows) (shows_images after_world lawful_after.orderly fields_after)
 
-  pub pages_after : length (images_of held) ≡ w.pages
+  pub pages_after : length (store_images held) ≡ w.pages
   pages_after = ap length f.shows ∙ length-map_below (shown after_world) w.pages
 
-  shown_after : (page : ℕ) → page < length (images_of held) → shown (world_held held) page ≡ shown after_world page
+  shown_after : (page : ℕ) → page < length (store_images held) → shown (world_held held) page ≡ shown after_world page
   shown_after page low =
       sym (page_shown (world_held held) page low)
-      ∙ (ap (λ (images : List (List SlotParts)). get_or images page []) (opened_shows held.commits (images_of held) are_images ∙ f.shows)
+      ∙ (ap (λ (images : List (List SlotParts)). get_or images page []) (opened_shows held.commits (store_images held) are_images ∙ f.shows)
       ∙ page_shown after_world page (subst (λ n. page < n) pages_after low))
 
   pub transactions_after : (s : TransactionsParts) → AreTransactionsOf s (world_held held) → AreTransactionsOf s after_world
@@ -146,7 +146,7 @@ module _ {D : Type 0} (disks : DiskOf D) where
   }
 
   -- the store as it was opened again, on a disk that tells
-  pub stands_again : (old store : Store D) (held : StoreParts) (w : World) (f : Finds w held) → Stands disks old w → IsReady store.transactions (world_held held) → store.commits ≡ held.commits → store.broken ≡ None
+  pub stands_again : (old store : Store D) (held : StoreParts) (w : World) (f : FindsNames w held) → Stands disks old w → IsReady store.transactions (world_held held) → store.commits ≡ held.commits → store.broken ≡ None
       → store.journal.pages ≡ length held.pages → length held.pages ≡ w.pages → held.commits ≡ store.journal.base + store.journal.commits → disks.size store.disk ≡ disks.size old.disk
       → disks.content store.disk ≡ disks.content old.disk → IfSome (disks.content old.disk) (λ file. IsStore file held) → IfSome (disks.content old.disk) (IsStoreOf store.journal) → IsSynced (disks.content store.disk) (disks.may_leave store.disk)
       → Stands disks store (reopened w held.commits f.names)
@@ -177,7 +177,7 @@ module _ {D : Type 0} (disks : DiskOf D) where
 
   -- what the disk tells finds a reopening of the world
   pub finds_told : (honest : (disk : D) (c : List ℕ) → disks.content disk ≡ Some c → disks.may_leave disk c) (store : Store D) (w : World) (held : StoreParts) (disk : D) → Stands disks store w
-      → disks.content disk ≡ disks.content store.disk → IfSome (disks.content store.disk) (λ file. IsStore file held) → is_some (disks.content disk) ≡ true → Finds w held
+      → disks.content disk ≡ disks.content store.disk → IfSome (disks.content store.disk) (λ file. IsStore file held) → is_some (disks.content disk) ≡ true → FindsNames w held
   finds_told honest store w held disk h same is_store told =
       let file = entry_there (disks.content disk) told in
       let is : disks.content store.disk ≡ Some file.0 = sym same ∙ file.1 in

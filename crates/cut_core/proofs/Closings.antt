@@ -26,11 +26,11 @@ use Rattle.cut_model.specs.CutPages.{CutPage}
 use Rattle.cut_model.specs.Standing.{CutBeside, IsCopying, IsStanding}
 use Rattle.cut_model.proofs.Phases.{event_stands}
 use Rattle.cut_model.proofs.Turning.{turns_close, turns_still}
-use Rattle.cut_builder.specs.CutParts.{CutParts, ClosedParts, MarkedParts, starts_of, AreCopied, IsFirstUncopied}
+use Rattle.cut_builder.specs.CutParts.{CutParts, ClosedParts, MarkedParts, cut_starts, AreCopied, IsFirstUncopied}
 use Rattle.cut_core.specs.Holding.{phase_of, beside_stage, beside_of, IsStage, IsHeldCut, IsHeld, Holds, IsButForCut}
 use Rattle.cut_core.specs.Given.{AreOfTheCut, CutAnswers, HeldGiven, HasGiven, KeepsGiven, IsCutOf, closed_reply, closed_note, marked_reply}
 use Rattle.cut_core.specs.Standing.{Stands}
-use Rattle.cut_core.specs.Whole.{Keeps}
+use Rattle.cut_core.specs.Whole.{StandsWithCut}
 use Rattle.cut_core.specs.declared.store.Store.{Store}
 use Rattle.cut_core.specs.declared.held.Stage.{Stage}
 use Rattle.cut_core.specs.declared.held.Stage.TheVariants.{Copying, Closed, Sweeping}
@@ -96,7 +96,7 @@ module _ (held : Held) (cut : HeldCut) (parts : CutParts) (w : World) (is : held
       (λ j before. let near : j < w.pages = omega (arith, before, low) in ap not (sym (copying.copied j near) ∙ first.least j before)) in
       stays_held held w Close nothing (Uncopied page) h (close_first nothing ∙ ap (λ o. first_met (option_map (λ (p : ℕ). Uncopied p) o ∷ [])) found) refl
 
-  pub closed_holds : (closed : ClosedParts) (given : Stage) → closed ≡ record { number = parts.number; pages = parts.pages } → phase_of given ≡ phase.Closed → beside_stage given ≡ record { pages = closed.pages; starts = starts_of closed }
+  pub closed_holds : (closed : ClosedParts) (given : Stage) → closed ≡ record { number = parts.number; pages = parts.pages } → phase_of given ≡ phase.Closed → beside_stage given ≡ record { pages = closed.pages; starts = cut_starts closed }
       → ((n : ℕ) → closed.number ≡ n → IsStage w n given) → AreCopied parts.pages
       → CutAnswers (record { cut = Some (record { number = cut.number; stage = given; swept = cut.swept }); last_cut = held.last_cut }) w Close images Done
   closed_holds closed given is_closed phase_is beside_is stage_is copied =
@@ -323,7 +323,7 @@ marked_noted workers number (Err back) other = mark_noted workers number back.1 
 
 module _ {D : Type 0} (disks : DiskOf D) where
   pub keeps_beside : (store : Store D) (new : Held) (w : World) (call : Call) (note : Note) (reply : Reply) → store.broken ≡ None → Stands disks store w → IsButForCut w (after_reply w call note reply)
-      → CutAnswers new w call note reply → Keeps disks store new (after_reply w call note reply)
+      → CutAnswers new w call note reply → StandsWithCut disks store new (after_reply w call note reply)
   keeps_beside store new w call note reply whole h rest answers = record {
     stands = subst (Stands disks store) (sym rest.2) (stands_beside disks store w rest.0 rest.1 (sym h.broken ∙ whole) h (subst IsLawful rest.2 answers.holds.standing.lawful));
     holds = answers.holds;

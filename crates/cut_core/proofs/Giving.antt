@@ -6,7 +6,7 @@ use Rattle.page_image.specs.Pages.{slot_at}
 use Rattle.page_buffer.specs.declared.frame.Frame.{Frame}
 use Rattle.cut_model.specs.CutPages.{CutPage, bare_page, with_commit, with_born}
 use Rattle.cut_core.specs.Joints.{is_made}
-use Rattle.cut_builder.specs.CutParts.{CutParts, page_of, with_page}
+use Rattle.cut_builder.specs.CutParts.{CutParts, page_in_cut, with_cut_page}
 use Rattle.std.proofs.lemmas.List.{length-map, take_all}
 use Rattle.page_image.specs.Pages.{PageParts}
 use Rattle.page_buffer.specs.Frames.{frame_at}
@@ -66,24 +66,24 @@ set_again (x ∷ xs) zero p q = refl
 set_again (x ∷ xs) (suc page) p q = ap (λ ys. x ∷ ys) (set_again xs page p q)
 
 pub image_given : (old mid new : CutParts) (frame : Frame) (moment number made used before : ℕ) → frame.current.number < length old.pages
-    → mid ≡ with_page old frame.current.number (with_commit frame.current.slots moment (page_of old.pages frame.current.number).born (page_of old.pages frame.current.number))
-    → number ≡ frame.current.number → new ≡ with_page mid number (with_born (page_of new.pages number).born (page_of mid.pages number))
-    → ((s : ℕ) → has_slot (page_of new.pages number).born s ≡ (has_slot (page_of mid.pages number).born s || has_slot made s))
+    → mid ≡ with_cut_page old frame.current.number (with_commit frame.current.slots moment (page_in_cut old.pages frame.current.number).born (page_in_cut old.pages frame.current.number))
+    → number ≡ frame.current.number → new ≡ with_cut_page mid number (with_born (page_in_cut new.pages number).born (page_in_cut mid.pages number))
+    → ((s : ℕ) → has_slot (page_in_cut new.pages number).born s ≡ (has_slot (page_in_cut mid.pages number).born s || has_slot made s))
     → ((s : ℕ) → has_slot made s ≡ (has_slot used s && not (has_slot before s)))
     → ((s : ℕ) → has_slot used s ≡ (slot_at frame.current s).in_use) → ((s : ℕ) → has_slot before s ≡ (slot_at frame.before s).in_use)
     → IsImageGiven frame moment old new
 image_given old mid new frame moment number made used before within is same then born made_is used_is before_is =
     let page = frame.current.number in
-    let p = page_of old.pages page in
-    let given : page_of mid.pages page ≡ with_commit frame.current.slots moment p.born p =
-    ap (λ (c : CutParts). page_of c.pages page) is ∙ get_or-set_same old.pages page (with_commit frame.current.slots moment p.born p) bare_page within in
-    let then_at : new ≡ with_page mid page (with_born (page_of new.pages page).born (page_of mid.pages page)) = subst (λ n. new ≡ with_page mid n (with_born (page_of new.pages n).born (page_of mid.pages n))) same then in
-    let b : ℕ = (page_of new.pages page).born in
+    let p = page_in_cut old.pages page in
+    let given : page_in_cut mid.pages page ≡ with_commit frame.current.slots moment p.born p =
+    ap (λ (c : CutParts). page_in_cut c.pages page) is ∙ get_or-set_same old.pages page (with_commit frame.current.slots moment p.born p) bare_page within in
+    let then_at : new ≡ with_cut_page mid page (with_born (page_in_cut new.pages page).born (page_in_cut mid.pages page)) = subst (λ n. new ≡ with_cut_page mid n (with_born (page_in_cut new.pages n).born (page_in_cut mid.pages n))) same then in
+    let b : ℕ = (page_in_cut new.pages page).born in
     record {
-      cut = then_at ∙ (ap (λ q. with_page mid page (with_born b q)) given ∙ (ap (λ (c : CutParts). with_page c page (with_commit frame.current.slots moment b p)) is
+      cut = then_at ∙ (ap (λ q. with_cut_page mid page (with_born b q)) given ∙ (ap (λ (c : CutParts). with_cut_page c page (with_commit frame.current.slots moment b p)) is
           ∙ ap (λ ps. record old { pages = ps }) (set_again old.pages page (with_commit frame.current.slots moment p.born p) (with_commit frame.current.slots moment b p))));
       born = λ s.
-          subst (λ n. has_slot (page_of new.pages n).born s ≡ (has_slot (page_of mid.pages n).born s || has_slot made s)) same (born s)
+          subst (λ n. has_slot (page_in_cut new.pages n).born s ≡ (has_slot (page_in_cut mid.pages n).born s || has_slot made s)) same (born s)
           ∙ (ap (λ (q : CutPage). has_slot q.born s || has_slot made s) given
           ∙ ap (λ d. has_slot p.born s || d) (made_is s ∙ (ap (λ u. u && not (has_slot before s)) (used_is s) ∙ ap (λ u. (slot_at frame.current s).in_use && not u) (before_is s))));
     }
@@ -141,20 +141,20 @@ less_of f (Some a) n m e h = omega (arith, e, h)
 
 pub later_given : (s : TransactionsParts) (w : World) (txn at page moment : ℕ) (frame : Frame) (old now : CutParts) → Copies s old w → w.commits + 1 ≡ moment → written_at s.table txn at ≡ Some page
     → ((e : OpenParts) → entry_of s.table txn ≡ Some e → IsAscending e.written) → frame ≡ frame_at s.frames page
-    → IsGivenUpTo w txn moment (take at (pages_in (entry_of s.table txn))) old now → IsLater moment (page_of now.pages frame.current.number)
+    → IsGivenUpTo w txn moment (take at (pages_in (entry_of s.table txn))) old now → IsLater moment (page_in_cut now.pages frame.current.number)
 later_given s w txn at page moment frame old now k m is up frame_is g =
     let seen = seen_at s w txn at page k.ready is in
     let number : frame.current.number ≡ page = ap (λ (f : Frame). f.current.number) frame_is ∙ ap (λ (p : PageParts). p.number) seen.1 in
     let within : page < length old.pages = subst (λ n. page < n) (sym k.copying.all) seen.0 in
     let sound = k.copying.sound page within in
-    let same : page_of now.pages page ≡ page_of old.pages page = g.others page (not_given s txn at page is up) in
-    subst (λ n. IsLater moment (page_of now.pages n)) (sym number) (subst (IsLater moment) (sym same)
-    (less_of (λ (c : CopyParts). c.moment) (page_of old.pages page).copy w.commits moment m sound.copied, less_of (λ (a : AfterImage). a.moment) (page_of old.pages page).after w.commits moment m sound.changed))
+    let same : page_in_cut now.pages page ≡ page_in_cut old.pages page = g.others page (not_given s txn at page is up) in
+    subst (λ n. IsLater moment (page_in_cut now.pages n)) (sym number) (subst (IsLater moment) (sym same)
+    (less_of (λ (c : CopyParts). c.moment) (page_in_cut old.pages page).copy w.commits moment m sound.copied, less_of (λ (a : AfterImage). a.moment) (page_in_cut old.pages page).after w.commits moment m sound.changed))
 
 -- ---- the images stay safe
 
 abbrev AreSafe : Opening → List CutPage → Type 0
-AreSafe opening pages = (page : ℕ) → page < length pages → AllByRecursion (IsSafeImage opening page) (images_of (page_of pages page))
+AreSafe opening pages = (page : ℕ) → page < length pages → AllByRecursion (IsSafeImage opening page) (images_of (page_in_cut pages page))
 
 graph_safe : (opening : Opening) (pages : List CutPage) (o : ObjectParts) → AreSafe opening pages → In o (cut_graph pages) → IsSafeObject opening o
 graph_safe opening pages o safe m =
@@ -172,20 +172,20 @@ safe_given w txn moment done opening old now orderly there keeps safe g page low
       | inl e ↦
           subst (λ q. AllByRecursion (IsSafeImage opening page) (images_of q)) (sym (g.given page e).is) (
             view_safe w (transaction w txn) opening page orderly there keeps,
-            all_right (IsSafeImage opening page) (images_of_after (page_of old.pages page).after) (images_of_copy (page_of old.pages page).copy) before,
+            all_right (IsSafeImage opening page) (images_of_after (page_in_cut old.pages page).after) (images_of_copy (page_in_cut old.pages page).copy) before,
           )
     ]
 
 safe_set : (opening : Opening) (pages : List CutPage) (page : ℕ) (p : CutPage) → AreSafe opening pages → page < length pages → AllByRecursion (IsSafeImage opening page) (images_of p) → AreSafe opening (set pages page p)
 safe_set opening pages page p safe low one q within = elim (cases_eq q page) [
-  | inl e ↦ subst (λ k. AllByRecursion (IsSafeImage opening k) (images_of (page_of (set pages page p) k))) (sym e)
+  | inl e ↦ subst (λ k. AllByRecursion (IsSafeImage opening k) (images_of (page_in_cut (set pages page p) k))) (sym e)
       (subst (λ x. AllByRecursion (IsSafeImage opening page) (images_of x)) (sym (get_or-set_same pages page p bare_page low)) one)
   | inr ne ↦ subst (λ x. AllByRecursion (IsSafeImage opening q) (images_of x)) (sym (get_or-set_other pages page q p bare_page ne)) (safe q (subst (λ n. q < n) (length-set pages page p) within))
 ]
 
 pub names_given : (s : TransactionsParts) (w : World) (txn at page moment : ℕ) (done : List ℕ) (frame : Frame) (old now : CutParts) → Copies s old w → written_at s.table txn at ≡ Some page → frame ≡ frame_at s.frames page
     → IsGivenUpTo w txn moment done old now
-    → HasOneNameEach (set now.pages frame.current.number (with_commit frame.current.slots moment (page_of now.pages frame.current.number).born (page_of now.pages frame.current.number)))
+    → HasOneNameEach (set now.pages frame.current.number (with_commit frame.current.slots moment (page_in_cut now.pages frame.current.number).born (page_in_cut now.pages frame.current.number)))
 names_given s w txn at page moment done frame old now k is frame_is g =
     let found = entry_found (entry_of s.table txn) at page is in
     let o = opened s s w txn found.0 refl found.1 k.ready in
@@ -198,12 +198,12 @@ names_given s w txn at page moment done frame old now k is frame_is g =
     let slots : frame.current.slots ≡ shown_in w (view w t) page = ap (λ (f : Frame). f.current.slots) frame_is ∙ ap (λ (p : PageParts). p.slots) seen.1 in
     let low : page < length now.pages = subst (λ n. n < length now.pages) number (within_cut s w txn at page moment done frame old now k is frame_is g) in
     let safe = safe_given w txn moment done opening old now orderly there k.copying.keeps (λ q within. (k.copying.sound q within).images) g in
-    let p = page_of now.pages page in
+    let p = page_in_cut now.pages page in
     let image = shown_in w (view w t) page in
     let after = safe_set opening now.pages page (with_commit image moment p.born p) safe low
     (view_safe w t opening page orderly there k.copying.keeps, all_right (IsSafeImage opening page) (images_of_after p.after) (images_of_copy p.copy) (safe page low)) in
     let one = one_name_each w opening (set now.pages page (with_commit image moment p.born p)) orderly k.copying.keeps (λ x m. graph_safe opening (set now.pages page (with_commit image moment p.born p)) x after m) in
-    subst (λ n. HasOneNameEach (set now.pages n (with_commit frame.current.slots moment (page_of now.pages n).born (page_of now.pages n)))) (sym number)
+    subst (λ n. HasOneNameEach (set now.pages n (with_commit frame.current.slots moment (page_in_cut now.pages n).born (page_in_cut now.pages n)))) (sym number)
     (subst (λ i. HasOneNameEach (set now.pages page (with_commit i moment p.born p))) (sym slots) one)
 
 -- ---- one page more
@@ -273,13 +273,13 @@ given_more s w txn at page moment frame old now new k is up frame_is image g = r
   all = ap (λ (c : CutParts). length c.pages) image.cut ∙ (length-set now.pages frame.current.number p_new ∙ g.all);
   others = λ q e. let b = either_last (has_page done q) (page == q) (sym (more q) ∙ e) in elsewhere q (λ same. let t : (page == q) ≡ true = eq-eqb page q (sym same) in cc) ∙ g.others q b.0;
   given = λ q h. elim (cases_eq q page) [
-    | inl same ↦ subst (λ n. IsPageGiven w txn moment n (page_of old.pages n) (page_of new.pages n)) (sym same) here
+    | inl same ↦ subst (λ n. IsPageGiven w txn moment n (page_in_cut old.pages n) (page_in_cut new.pages n)) (sym same) here
     | inr ne ↦
         let was : has_page done q ≡ true = elim (cases_Bool (has_page done q)) [
           | inl e ↦ e
           | inr e ↦ let f : (page == q) ≡ false = ne_eqb page q (λ x. ne (sym x)) in let z : true ≡ false = sym h ∙ (more q ∙ (ap (λ b. b || (page == q)) e ∙ f)) in cc
         ] in
-        subst (λ x. IsPageGiven w txn moment q (page_of old.pages q) x) (sym (elsewhere q ne)) (g.given q was)
+        subst (λ x. IsPageGiven w txn moment q (page_in_cut old.pages q) x) (sym (elsewhere q ne)) (g.given q was)
   ];
 }
   where
@@ -302,15 +302,15 @@ given_more s w txn at page moment frame old now new k is up frame_is image g = r
     number = ap (λ (f : Frame). f.current.number) frame_is ∙ ap (λ (p : PageParts). p.number) seen.1
 
     p_new : CutPage
-    p_new = with_commit frame.current.slots moment (page_of new.pages frame.current.number).born (page_of now.pages frame.current.number)
+    p_new = with_commit frame.current.slots moment (page_in_cut new.pages frame.current.number).born (page_in_cut now.pages frame.current.number)
 
     low : page < length now.pages
     low = subst (λ n. n < length now.pages) number (within_cut s w txn at page moment done frame old now k is frame_is g)
 
-    elsewhere : (q : ℕ) → q ≢ page → page_of new.pages q ≡ page_of now.pages q
-    elsewhere q ne = ap (λ (c : CutParts). page_of c.pages q) image.cut ∙ get_or-set_other now.pages frame.current.number q p_new bare_page (λ e. ne (e ∙ number))
+    elsewhere : (q : ℕ) → q ≢ page → page_in_cut new.pages q ≡ page_in_cut now.pages q
+    elsewhere q ne = ap (λ (c : CutParts). page_in_cut c.pages q) image.cut ∙ get_or-set_other now.pages frame.current.number q p_new bare_page (λ e. ne (e ∙ number))
 
-    same_page : page_of now.pages page ≡ page_of old.pages page
+    same_page : page_in_cut now.pages page ≡ page_in_cut old.pages page
     same_page = g.others page (not_given s txn at page is up)
 
     did : wrote w txn page ≡ true
@@ -318,15 +318,15 @@ given_more s w txn at page moment frame old now new k is up frame_is image g = r
         let o = opened s s w txn found.0 refl found.1 k.ready in
         ap (λ (x : Transaction). has_page x.pages_written page) (transaction_found w txn o.of o.found) ∙ (sym (o.entry.written.each page) ∙ has_there found.0.written at page found.2)
 
-    here : IsPageGiven w txn moment page (page_of old.pages page) (page_of new.pages page)
+    here : IsPageGiven w txn moment page (page_in_cut old.pages page) (page_in_cut new.pages page)
     here = record {
       made = λ slot.
-          subst (λ n. has_slot (page_of new.pages n).born slot ≡ (has_slot (page_of now.pages n).born slot || is_made frame slot)) number (image.born slot)
+          subst (λ n. has_slot (page_in_cut new.pages n).born slot ≡ (has_slot (page_in_cut now.pages n).born slot || is_made frame slot)) number (image.born slot)
           ∙ (ap (λ (q : CutPage). has_slot q.born slot || is_made frame slot) same_page
-          ∙ ap (λ b. has_slot (page_of old.pages page).born slot || b) (ap (λ f. is_made f slot) frame_is ∙ made_at s w txn page slot k.ready seen.0 did));
+          ∙ ap (λ b. has_slot (page_in_cut old.pages page).born slot || b) (ap (λ f. is_made f slot) frame_is ∙ made_at s w txn page slot k.ready seen.0 did));
       is =
-          subst (λ n. page_of new.pages n ≡ with_commit frame.current.slots moment (page_of new.pages n).born (page_of now.pages n)) number
-          (ap (λ (c : CutParts). page_of c.pages frame.current.number) image.cut ∙ get_or-set_same now.pages frame.current.number p_new bare_page (subst (λ n. n < length now.pages) (sym number) low))
-          ∙ (ap (λ i. with_commit i moment (page_of new.pages page).born (page_of now.pages page)) (ap (λ (f : Frame). f.current.slots) frame_is ∙ ap (λ (p : PageParts). p.slots) seen.1)
-          ∙ ap (λ x. with_commit (shown_in w (view w (transaction w txn)) page) moment (page_of new.pages page).born x) same_page);
+          subst (λ n. page_in_cut new.pages n ≡ with_commit frame.current.slots moment (page_in_cut new.pages n).born (page_in_cut now.pages n)) number
+          (ap (λ (c : CutParts). page_in_cut c.pages frame.current.number) image.cut ∙ get_or-set_same now.pages frame.current.number p_new bare_page (subst (λ n. n < length now.pages) (sym number) low))
+          ∙ (ap (λ i. with_commit i moment (page_in_cut new.pages page).born (page_in_cut now.pages page)) (ap (λ (f : Frame). f.current.slots) frame_is ∙ ap (λ (p : PageParts). p.slots) seen.1)
+          ∙ ap (λ x. with_commit (shown_in w (view w (transaction w txn)) page) moment (page_in_cut new.pages page).born x) same_page);
     }

@@ -41,7 +41,7 @@ use Rattle.object_graph.specs.Replies.{done_reply}
 use Rattle.cut_core.proofs.FrameCopies.{frame_copy}
 use Rattle.cut_core.proofs.OneName.{one_name_each}
 use Rattle.cut_builder.specs.CutParts as built
-use Rattle.cut_builder.specs.CutParts.{CutParts, page_of}
+use Rattle.cut_builder.specs.CutParts.{CutParts, page_in_cut}
 use Rattle.page_buffer.specs.Frames.{frame_at}
 use Rattle.transactions.specs.Standing.{TransactionsParts, IsReady}
 use Rattle.cut_core.specs.declared.held.Stage.{Stage}
@@ -58,7 +58,7 @@ use Rattle.store_model.specs.Lawful.{IsLawful, IsPlaced}
 use Rattle.store_model.specs.Replies.{has_note}
 use Rattle.store_model.specs.Worlds.{slots_of}
 use Rattle.redo_journal.proofs.Moments.{if_some_map}
-use Rattle.transactions.specs.Standing.{Stands as AreTransactionsOf}
+use Rattle.transactions.specs.Standing.{AreTransactionsOf}
 use Rattle.cut_core.specs.Standing.{KeepsWorld, Stands, Steps}
 use Rattle.cut_core.specs.declared.store.Store.{Store}
 use Rattle.cut_core.proofs.Recorded.{undoubted}
@@ -179,16 +179,16 @@ same_cut held cut w is h = record {
 -- the copy of a frame leaves one name at each place
 pub copy_names : (s : TransactionsParts) (cut : CutParts) (page at commits : ℕ) (c : CopyParts) (frame : Frame) (w : World) → Copies s cut w → w.commits ≡ commits → (count : ℕ) → count ≡ length s.frames
     → page < count → at ≡ page → c ≡ copy_of_frame commits frame → frame ≡ frame_at s.frames page
-    → built.HasOneNameEach (set cut.pages at (with_copy c (page_of cut.pages at)))
+    → built.HasOneNameEach (set cut.pages at (with_copy c (page_in_cut cut.pages at)))
 copy_names s cut page at commits c frame w k is count counted few at_is c_is frame_is =
     let low : page < w.pages = subst (λ n. page < n) (counted ∙ k.ready.stands.frames.count) few in
     let within : page < length cut.pages = subst (λ n. page < n) (sym k.copying.all) low in
     let copy : c ≡ copy_now w page = c_is ∙ (ap (copy_of_frame commits) frame_is ∙ (ap (λ n. copy_of_frame n (frame_at s.frames page)) (sym is) ∙ frame_copy s w page k.ready low)) in
     let sound = frame_keeps_cut w k.opened.opening cut.pages page k.ready.lawful.orderly k.copying.keeps k.copying.sound within in
-    subst (λ p. built.HasOneNameEach (set cut.pages p (with_copy c (page_of cut.pages p)))) (sym at_is)
-    (subst (λ d. built.HasOneNameEach (set cut.pages page (with_copy d (page_of cut.pages page)))) (sym copy)
-    (one_name_each w k.opened.opening (set cut.pages page (with_copy (copy_now w page) (page_of cut.pages page))) k.ready.lawful.orderly k.copying.keeps
-    (λ o m. cut_graph_safe (state_of w) k.opened.opening (set cut.pages page (with_copy (copy_now w page) (page_of cut.pages page))) o sound m)))
+    subst (λ p. built.HasOneNameEach (set cut.pages p (with_copy c (page_in_cut cut.pages p)))) (sym at_is)
+    (subst (λ d. built.HasOneNameEach (set cut.pages page (with_copy d (page_in_cut cut.pages page)))) (sym copy)
+    (one_name_each w k.opened.opening (set cut.pages page (with_copy (copy_now w page) (page_in_cut cut.pages page))) k.ready.lawful.orderly k.copying.keeps
+    (λ o m. cut_graph_safe (state_of w) k.opened.opening (set cut.pages page (with_copy (copy_now w page) (page_in_cut cut.pages page))) o sound m)))
 
 copy_first : (w : World) (cut : OpenedCut) (pages : List CutPage) (page count : ℕ) → w.broken ≡ None → w.cut ≡ Some cut → cut.phase ≡ phase.Copying → count ≡ w.pages → IsCopying w cut pages
     → first_refusal w (Copy page) nothing ≡ copy_refusal count pages page
@@ -200,7 +200,7 @@ copy_first w cut pages page count calm is at same copying =
     by : (b : Bool) → nat_lt page w.pages ≡ b → first_met (no_page w page ∷ already_copied cut page ∷ []) ≡ copy_refusal w.pages pages page
     by false e =
         ap (λ b. first_met (when (not b) NoPage ∷ already_copied cut page ∷ [])) e
-        ∙ sym (ap (λ b. first_met (when (not b) NoPage ∷ when (is_some (page_of pages page).copy) (AlreadyCopied page) ∷ [])) e)
+        ∙ sym (ap (λ b. first_met (when (not b) NoPage ∷ when (is_some (page_in_cut pages page).copy) (AlreadyCopied page) ∷ [])) e)
     by true e = ap (λ b. first_met (no_page w page ∷ when b (AlreadyCopied page) ∷ [])) (sym (copying.copied page (ltb-true page w.pages e)))
 
 pub some_same : {A : Type 0} (a b : A) → Some a ≡ Some b → a ≡ b
@@ -208,7 +208,7 @@ some_same a b e = ap (λ o. unwrap_or o a) e
 
 -- a page that isn't copied leaves the world
 copy_unmoved : (w : World) (count page : ℕ) (pages : List CutPage) (why : Refusal) → copy_refusal count pages page ≡ Some why → after_refusal w (Copy page) nothing why ≡ w
-copy_unmoved w count page pages why is = by (nat_lt page count) (is_some (page_of pages page).copy) is
+copy_unmoved w count page pages why is = by (nat_lt page count) (is_some (page_in_cut pages page).copy) is
   where
     by : (a b : Bool) → first_met (when (not a) NoPage ∷ when b (AlreadyCopied page) ∷ []) ≡ Some why → after_refusal w (Copy page) nothing why ≡ w
     by false b e = (let same : NoPage ≡ why = some_same NoPage why e in subst (λ y. after_refusal w (Copy page) nothing y ≡ w) same refl)
@@ -223,7 +223,7 @@ module _ (held : HeldCut) (cut after : CutParts) (last page commits : ℕ) (s : 
   new = record { cut = Some (record { number = held.number; stage = Copying after; swept = held.swept }); last_cut = last }
 
   pub copied_steps : (result : Result (Unit {0}) Refusal) → held.stage ≡ Copying cut → Holds old w → IsReady s w → w.commits ≡ commits
-      → OnOk result (after ≡ built.with_page cut page (with_copy (copy_of_frame commits (frame_at s.frames page)) (page_of cut.pages page)))
+      → OnOk result (after ≡ built.with_cut_page cut page (with_copy (copy_of_frame commits (frame_at s.frames page)) (page_in_cut cut.pages page)))
       → OnOk result (page < length s.frames) → OnOk result (copy_refusal (length s.frames) cut.pages page ≡ None)
       → OnErr result (after ≡ cut) → ((why : Refusal) → result ≡ Err why → copy_refusal (length s.frames) cut.pages page ≡ Some why)
       → CutSteps new w (Copy page) (done_reply result)
@@ -236,7 +236,7 @@ module _ (held : HeldCut) (cut after : CutParts) (last page commits : ℕ) (s : 
     where
       by : (r : Result (Unit {0}) Refusal) (c : OpenedCut) → w.cut ≡ Some c → IsHeldCut w held c → c.phase ≡ phase.Copying → IsCopying w c cut.pages
           → first_refusal w (Copy page) nothing ≡ copy_refusal (length s.frames) cut.pages page
-          → OnOk r (after ≡ built.with_page cut page (with_copy (copy_of_frame commits (frame_at s.frames page)) (page_of cut.pages page)))
+          → OnOk r (after ≡ built.with_cut_page cut page (with_copy (copy_of_frame commits (frame_at s.frames page)) (page_in_cut cut.pages page)))
           → OnOk r (page < length s.frames) → OnOk r (copy_refusal (length s.frames) cut.pages page ≡ None)
           → OnErr r (after ≡ cut) → ((why : Refusal) → r ≡ Err why → copy_refusal (length s.frames) cut.pages page ≡ Some why)
           → CutSteps new w (Copy page) (done_reply r)
@@ -248,8 +248,8 @@ module _ (held : HeldCut) (cut after : CutParts) (last page commits : ℕ) (s : 
           let low : page < w.pages = subst (λ n. page < n) ready.stands.frames.count within in
           let inside : page < length cut.pages = subst (λ n. page < n) (sym copying.all) low in
           let copy : copy_of_frame commits (frame_at s.frames page) ≡ copy_now w page = ap (λ n. copy_of_frame n (frame_at s.frames page)) (sym same) ∙ frame_copy s w page ready low in
-          let pages : after.pages ≡ set cut.pages page (with_copy (copy_now w page) (page_of cut.pages page)) =
-          ap (λ (p : CutParts). p.pages) copied ∙ ap (λ d. set cut.pages page (with_copy d (page_of cut.pages page))) copy in
+          let pages : after.pages ≡ set cut.pages page (with_copy (copy_now w page) (page_in_cut cut.pages page)) =
+          ap (λ (p : CutParts). p.pages) copied ∙ ap (λ d. set cut.pages page (with_copy d (page_in_cut cut.pages page))) copy in
           let allowed : AllowsReply w (Copy page) nothing Done = (first ∙ may, refl) in
           let from : IsStanding w (beside_stage (Copying cut)) = subst (λ t. IsStanding w (beside_stage t)) stage h.standing in
           record {
@@ -273,7 +273,7 @@ module _ (held : HeldCut) (cut after : CutParts) (last page commits : ℕ) (s : 
 
   -- the copy is the page's frame as it stands
   pub copied_adds : (result : Result (Unit {0}) Refusal) → held.stage ≡ Copying cut → Holds old w → IsReady s w → w.commits ≡ commits
-      → OnOk result (after ≡ built.with_page cut page (with_copy (copy_of_frame commits (frame_at s.frames page)) (page_of cut.pages page)))
+      → OnOk result (after ≡ built.with_cut_page cut page (with_copy (copy_of_frame commits (frame_at s.frames page)) (page_in_cut cut.pages page)))
       → OnOk result (page < length s.frames) → OnOk result (AddsFrame w page (beside_stage held.stage) (beside_stage (Copying after)))
   copied_adds (Err why) stage h ready same copied within = tt
   copied_adds (Ok done) stage h ready same copied within =
@@ -283,8 +283,8 @@ module _ (held : HeldCut) (cut after : CutParts) (last page commits : ℕ) (s : 
       let low : page < w.pages = subst (λ n. page < n) ready.stands.frames.count within in
       let inside : page < length cut.pages = subst (λ n. page < n) (sym copying.all) low in
       let copy : copy_of_frame commits (frame_at s.frames page) ≡ copy_now w page = ap (λ n. copy_of_frame n (frame_at s.frames page)) (sym same) ∙ frame_copy s w page ready low in
-      let pages : after.pages ≡ set cut.pages page (with_copy (copy_now w page) (page_of cut.pages page)) =
-      ap (λ (p : CutParts). p.pages) copied ∙ ap (λ d. set cut.pages page (with_copy d (page_of cut.pages page))) copy in
+      let pages : after.pages ≡ set cut.pages page (with_copy (copy_now w page) (page_in_cut cut.pages page)) =
+      ap (λ (p : CutParts). p.pages) copied ∙ ap (λ d. set cut.pages page (with_copy d (page_in_cut cut.pages page))) copy in
       subst (λ t. AddsFrame w page (beside_stage t) (beside_stage (Copying after))) (sym stage) (inside, pages)
 
 -- ---- the end
@@ -585,11 +585,11 @@ cut_after : (w : World) (txn moment : ℕ) (written : List ℕ) (old new : CutPa
 cut_after w txn moment written old new is same g = record {
   all = g.all;
   others = λ page e. g.others page (same page ∙ e);
-  made = λ page. (page_of new.pages page).born;
+  made = λ page. (page_in_cut new.pages page).born;
   is_made = λ page h. (g.given page (same page ∙ h)).made;
   written = λ page low h.
       let given = g.given page (same page ∙ h) in
-      inl (given.is ∙ ap (λ n. with_commit (shown_in w (view w (transaction w txn)) page) n (page_of new.pages page).born (page_of old.pages page)) is);
+      inl (given.is ∙ ap (λ n. with_commit (shown_in w (view w (transaction w txn)) page) n (page_in_cut new.pages page).born (page_in_cut old.pages page)) is);
 }
 
 pub commit_copying : (held : Held) (cut : HeldCut) (old new : CutParts) (w : World) (txn moment commits : ℕ) (s : TransactionsParts) → held.cut ≡ Some cut → cut.stage ≡ Copying old → Holds held w → IsReady s w

@@ -22,7 +22,7 @@ use Rattle.store_model.specs.States.{State, state_of}
 use Rattle.image_model.specs.Records.{IsAfterRecord}
 use Rattle.image_model.specs.Stands.{StandsFor, StandsForWorld, IsStoreOf}
 use Rattle.image_model.proofs.Doubts.{stands_as_before, stands_undoubted}
-use Rattle.transactions.specs.Standing.{TransactionsParts, Stands as AreTransactionsOf}
+use Rattle.transactions.specs.Standing.{TransactionsParts, AreTransactionsOf}
 use Rattle.cut_core.specs.Seen.{StandsForEither}
 use Rattle.cut_core.specs.Standing.{KeepsWorld, Stands}
 use Rattle.cut_core.specs.Writing.{KeepsState, StandsForOneOf}

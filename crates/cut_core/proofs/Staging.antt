@@ -11,7 +11,7 @@ use Rattle.object_graph.specs.declared.limits.TheConstants.{MOST_WRITTEN}
 use Rattle.page_image.specs.Pages.{PageParts}
 use Rattle.page_buffer.specs.Frames.{frame_at}
 use Rattle.redo_journal.specs.Record.{IsRecordOf, numbers_of, with_image}
-use Rattle.redo_journal.specs.Replays.{later, last_image, is_among}
+use Rattle.redo_journal.specs.Replays.{later, last_image, has_image}
 use Rattle.store_model.specs.Worlds.{World, Transaction, transaction, view}
 use Rattle.store_model.specs.Causes.{has_page}
 use Rattle.store_model.specs.Images.{shown_in}
@@ -80,7 +80,7 @@ among_by p None true h e = refl
 among_by p None false h e = e
 
 -- an image is that of a page whose number is among the images' numbers
-among_numbers : (images : List PageParts) (page : ℕ) → is_among images page ≡ has_page (numbers_of images) page
+among_numbers : (images : List PageParts) (page : ℕ) → has_image images page ≡ has_page (numbers_of images) page
 among_numbers [] page = refl
 among_numbers (p ∷ ps) page = among_by p (last_image ps page) (p.number == page) (has_page (numbers_of ps) page) (among_numbers ps page)
 

@@ -25,8 +25,8 @@ use Rattle.store_model.proofs.Lawfulness.{event_is_lawful, broken_refuses}
 use Rattle.store_model.specs.States.{state_of, state_after}
 use Rattle.image_model.specs.Records.{commit_record}
 use Rattle.image_model.specs.Stands.{StandsFor, StandsForWorld}
-use Rattle.transactions.specs.Standing.{TransactionsParts, IsReady, Stands as AreTransactionsOf}
-use Rattle.transactions.specs.Calls.{StepsWell as TransactsWell}
+use Rattle.transactions.specs.Standing.{TransactionsParts, IsReady, AreTransactionsOf}
+use Rattle.transactions.specs.Calls.{TransactsWell}
 use Rattle.transactions.specs.Tables.{entry_of}
 use Rattle.transactions.proofs.Opened.{not_opened}
 use Rattle.transactions.proofs.Begins.{opened_there}

@@ -9,7 +9,7 @@ use Rattle.store_model.specs.FromImages.{slot_in, objects_in_use, is_name_in_use
 use Rattle.store_model.proofs.Committed.{path_last}
 use Rattle.store_model.proofs.Given.{used_named}
 use Rattle.recovery.proofs.UsedNames.{slot_refers}
-use Rattle.image_model.specs.Opening.{StoreParts, Fault, images_of}
+use Rattle.image_model.specs.Opening.{StoreParts, Fault, store_images}
 use Rattle.image_model.specs.Stores.{IsStore, IsRooted, DanglesAt, HasFaultAt, HasFault, HoldsFault}
 
 get_in : {A : Type 0} (xs : List A) (i : ℕ) (x : A) → slice_get xs i ≡ Some x → In x xs
@@ -39,4 +39,4 @@ store_has_none file held fault h has =
     ⊎_elim (λ closed. let e = sym h.opens ∙ closed in cc) (λ (holds : HoldsFault file fault). other holds (let e = sym h.opens ∙ holds.opens in cc)) has
   where
     other : (holds : HoldsFault file fault) → held ≡ holds.store → ⊥
-    other holds same = rooted_clean (images_of holds.store) holds.at (subst (λ (p : StoreParts). IsRooted (images_of p)) same h.rooted) holds.there
+    other holds same = rooted_clean (store_images holds.store) holds.at (subst (λ (p : StoreParts). IsRooted (store_images p)) same h.rooted) holds.there

@@ -49,7 +49,7 @@ use Rattle.cut_model.proofs.Phases.{event_stands, cut_none, right_phase, doomed_
 use Rattle.cut_model.proofs.Turning.{turns_still}
 use Rattle.cut_builder.specs.CutParts.{MarkedParts}
 use Rattle.transactions.specs.Calls.{AreOutOfReach}
-use Rattle.transactions.specs.Standing.{TransactionsParts, IsReady, image_in, Stands as AreTransactionsOf}
+use Rattle.transactions.specs.Standing.{TransactionsParts, IsReady, image_in, AreTransactionsOf}
 use Rattle.transactions.proofs.Shown.{get-shown}
 use Rattle.transactions.proofs.Sweeping.{sweep_stands}
 use Rattle.transactions.proofs.Unseen.{stands_same}

@@ -21,7 +21,7 @@ use Rattle.store_model.proofs.Flats.{length_below, get_below}
 use Rattle.page_buffer.specs.Frames.{blank_frame, with_frame}
 use Rattle.page_buffer.specs.declared.frame.Frame.{Frame}
 use Rattle.transactions.specs.Calls.{ChangesFramesOf}
-use Rattle.transactions.specs.Standing.{TransactionsParts, AreAlike, IsTable, Stands as AreTransactionsOf, wrote}
+use Rattle.transactions.specs.Standing.{TransactionsParts, AreAlike, IsTable, AreTransactionsOf, wrote}
 use Rattle.transactions.specs.Tables.{OpenParts, Entries, IsAscending, entry_of, pages_in}
 use Rattle.transactions.proofs.Entries.{or_false}
 use Rattle.transactions.proofs.PagesChanged.{changes_of_one}

@@ -21,7 +21,7 @@ use Rattle.cut_core.specs.Joints.{is_made}
 use Rattle.cut_builder.specs.CutParts as built
 use Rattle.cut_model.specs.CutPages.{CutPage, with_commit}
 use Rattle.cut_model.specs.Standing.{CutBeside, IsCopying, IsStanding, nothing_copied}
-use Rattle.cut_builder.specs.CutParts.{CutParts, page_of, starts_of}
+use Rattle.cut_builder.specs.CutParts.{CutParts, page_in_cut, cut_starts}
 use Rattle.transactions.specs.Standing.{TransactionsParts, IsReady}
 use Rattle.cut_core.specs.declared.held.Stage.{Stage}
 use Rattle.cut_core.specs.declared.held.Stage.TheVariants.{Copying, Closed, Sweeping}
@@ -36,8 +36,8 @@ phase_of (Sweeping marked) = phase.Sweeping
 -- what stands beside the world: what the cut has of each page and, from the closing on, where the marks start
 abbrev pub beside_stage : Stage → CutBeside
 beside_stage (Copying cut) = record { pages = cut.pages; starts = [] }
-beside_stage (Closed given) = record { pages = given.value.pages; starts = starts_of given.value }
-beside_stage (Sweeping marked) = record { pages = marked.cut.pages; starts = starts_of marked.cut }
+beside_stage (Closed given) = record { pages = given.value.pages; starts = cut_starts given.value }
+beside_stage (Sweeping marked) = record { pages = marked.cut.pages; starts = cut_starts marked.cut }
 
 abbrev pub beside_of : Option HeldCut → CutBeside
 beside_of None = nothing_copied 0
@@ -90,7 +90,7 @@ before_of_frame frame = if frame.dirty then Some frame.before else None
 -- why a page isn't copied, where there are so many
 abbrev pub copy_refusal : ℕ → List CutPage → ℕ → Option Refusal
 copy_refusal count pages page = first_met (when (not (nat_lt page count)) NoPage
-    ∷ when (is_some (page_of pages page).copy) (AlreadyCopied page) ∷ [])
+    ∷ when (is_some (page_in_cut pages page).copy) (AlreadyCopied page) ∷ [])
 
 -- the copy of the page that is its frame as it stands is added to the cut
 abbrev pub AddsFrame : World → ℕ → CutBeside → CutBeside → Type 0
@@ -108,11 +108,11 @@ pub record Copies (s : TransactionsParts) (cut : CutParts) (w : World) : Type 0 
 
 -- the image of a frame was given to a cut, and the slots in which objects were made
 pub record IsImageGiven (frame : Frame) (moment : ℕ) (old new : CutParts) : Type 0 where
-  pub cut : new ≡ built.with_page old frame.current.number
-      (with_commit frame.current.slots moment (page_of new.pages frame.current.number).born
-      (page_of old.pages frame.current.number))
-  pub born : (s : ℕ) → has_slot (page_of new.pages frame.current.number).born s
-      ≡ (has_slot (page_of old.pages frame.current.number).born s || is_made frame s)
+  pub cut : new ≡ built.with_cut_page old frame.current.number
+      (with_commit frame.current.slots moment (page_in_cut new.pages frame.current.number).born
+      (page_in_cut old.pages frame.current.number))
+  pub born : (s : ℕ) → has_slot (page_in_cut new.pages frame.current.number).born s
+      ≡ (has_slot (page_in_cut old.pages frame.current.number).born s || is_made frame s)
 
 -- a page after the commit
 pub record IsPageGiven (w : World) (txn moment page : ℕ) (old new : CutPage) : Type 0 where
@@ -124,6 +124,6 @@ pub record IsGivenUpTo (w : World) (txn moment : ℕ) (done : List ℕ) (old new
   pub number : new.number ≡ old.number
   pub start : new.start ≡ old.start
   pub all : length new.pages ≡ length old.pages
-  pub others : (page : ℕ) → has_page done page ≡ false → page_of new.pages page ≡ page_of old.pages page
+  pub others : (page : ℕ) → has_page done page ≡ false → page_in_cut new.pages page ≡ page_in_cut old.pages page
   pub given : (page : ℕ) → has_page done page ≡ true
-      → IsPageGiven w txn moment page (page_of old.pages page) (page_of new.pages page)
+      → IsPageGiven w txn moment page (page_in_cut old.pages page) (page_in_cut new.pages page)

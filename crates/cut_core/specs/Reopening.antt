@@ -12,7 +12,7 @@ use Rattle.store_model.specs.Images.{all_shown}
 use Rattle.store_model.specs.Worlds.{World, Note, nothing, faults, found}
 use Rattle.store_model.specs.Replies.{Allows, MayReopen}
 use Rattle.store_model.specs.Steps.{next, reopened}
-use Rattle.image_model.specs.Opening.{StoreParts, images_of}
+use Rattle.image_model.specs.Opening.{StoreParts, store_images}
 use Rattle.image_model.specs.Stands.{world_held}
 use Rattle.recovery.specs.declared.faults.OpenFault.{OpenFault}
 use Rattle.recovery.specs.declared.faults.OpenFault.TheVariants as faulty
@@ -22,14 +22,14 @@ abbrev pub with_last_cut : ℕ → World → World
 with_last_cut number w = record w { last_cut = number }
 
 -- the names that a reopening of this world found freed, which then shows what the store holds
-pub record Finds (w : World) (held : StoreParts) : Type 0 where
+pub record FindsNames (w : World) (held : StoreParts) : Type 0 where
   pub names : List NameParts
   pub may : MayReopen w w.doubt held.commits names
-  pub shows : images_of held ≡ all_shown (reopened w held.commits names)
+  pub shows : store_images held ≡ all_shown (reopened w held.commits names)
 
 -- the world after it: by what was found, where the disk tells; else the one that the store opens to
 pub record IsFound (told : Bool) (w : World) (held : StoreParts) (next : World) : Type 0 where
-  pub known : told ≡ true → (f : Finds w held) × (next ≡ reopened w held.commits f.names)
+  pub known : told ≡ true → (f : FindsNames w held) × (next ≡ reopened w held.commits f.names)
   pub other : told ≡ false → next ≡ with_last_cut w.last_cut (world_held held)
 
 -- the world after a reopening that the model allows

@@ -10,7 +10,7 @@ use Rattle.store_model.specs.Replies.{Allows}
 use Rattle.store_model.specs.Steps.{next}
 use Rattle.store_model.specs.Lawful.{IsLawful}
 use Rattle.image_model.specs.Stands.{StandsForWorld, IsStoreOf}
-use Rattle.transactions.specs.Standing.{Stands as AreTransactionsOf}
+use Rattle.transactions.specs.Standing.{AreTransactionsOf}
 use Rattle.cut_core.specs.Seen.{StandsForEither}
 use Rattle.cut_core.specs.Holding.{Holds}
 use Rattle.cut_core.specs.declared.held.Held.{Held}

@@ -6,7 +6,7 @@ ghost use Rattle.store_model.specs.Worlds.{World};
 ghost use Rattle.page_buffer.specs.Frames.{frame_at};
 ghost use Rattle.cut_model.specs.CutPages.{with_copy, with_commit};
 ghost use Rattle.cut_core.specs.Joints.{copy_of_frame};
-ghost use Rattle.cut_builder.specs.CutParts.{page_of, with_page, copied_of, IsLater, HasOneNameEach};
+ghost use Rattle.cut_builder.specs.CutParts.{page_in_cut, with_cut_page, copied_of, IsLater, HasOneNameEach};
 ghost use Rattle.cut_core.specs.Holding.{Copies, copy_refusal, before_of_frame, IsImageGiven, IsGivenUpTo};
 ghost use Rattle.transactions.specs.Tables.{pages_in};
 ghost use Rattle.transactions.specs.Tables.{entry_of};
@@ -50,7 +50,7 @@ pub fn copy_page<L: Ledger>(
     steps: &mut Steps<L>,
 ) -> Result<(), Refusal>
     requires { (w : World) × Copies transactions.now cut.old w × (w.commits ≡ commits) }
-    ensures copied { OnOk result (cut.new ≡ with_page cut.old page (with_copy (copy_of_frame commits (frame_at transactions.now.frames page)) (page_of cut.old.pages page))) }
+    ensures copied { OnOk result (cut.new ≡ with_cut_page cut.old page (with_copy (copy_of_frame commits (frame_at transactions.now.frames page)) (page_in_cut cut.old.pages page))) }
     ensures within { OnOk result (page < length transactions.now.frames) }
     ensures may { OnOk result (copy_refusal (length transactions.now.frames) cut.old.pages page ≡ None) }
     ensures unchanged { OnErr result (cut.new ≡ cut.old) }
@@ -72,8 +72,8 @@ pub fn copy_page<L: Ledger>(
 /// Gives a cut the image of a page that is committed, and the slots in which objects were made.
 fn give_image(cut: &mut Cut, frame: &Frame, moment: u64)
     requires page { frame.now.current.number < length cut.old.pages }
-    requires later { IsLater moment (page_of cut.old.pages frame.now.current.number) }
-    requires names { HasOneNameEach (slice_set cut.old.pages frame.now.current.number (with_commit frame.now.current.slots moment (page_of cut.old.pages frame.now.current.number).born (page_of cut.old.pages frame.now.current.number))) }
+    requires later { IsLater moment (page_in_cut cut.old.pages frame.now.current.number) }
+    requires names { HasOneNameEach (slice_set cut.old.pages frame.now.current.number (with_commit frame.now.current.slots moment (page_in_cut cut.old.pages frame.now.current.number).born (page_in_cut cut.old.pages frame.now.current.number))) }
     ensures { IsImageGiven frame.now moment cut.old cut.new }
 {
     cut.add_after(&frame.current, moment);

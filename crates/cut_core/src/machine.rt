@@ -11,7 +11,7 @@ ghost use Rattle.store_model.specs.Replies.{Allows};
 ghost use Rattle.store_model.specs.Steps.{next};
 ghost use Rattle.image_model.specs.Opening.{StoreParts, not_a_store, damaged};
 ghost use Rattle.image_model.specs.Stores.{IsStore, HasFault};
-ghost use Rattle.image_model.specs.Stands.{StandsForWorld, opened};
+ghost use Rattle.image_model.specs.Stands.{StandsForWorld, opened_world};
 ghost use Rattle.transactions.specs.Standing.{IsFrameOf, AreFramesOf};
 ghost use Rattle.cut_core.specs.Calls.{IsBuilt, TakesSteps, event_of};
 ghost use Rattle.object_graph.specs.declared.calls.Refusal.TheVariants.{Memory as NoMemory};
@@ -59,18 +59,18 @@ impl<D: Disk> Model for Core<D> {
     ghost Value = { Seen D };
 
     ghost use Rattle.cut_core.specs.Holding.{beside_of};
-    ghost use Rattle.cut_core.specs.Whole.{Keeps};
+    ghost use Rattle.cut_core.specs.Whole.{StandsWithCut};
 
     ghost view = { λ c. record { world = c.told.value; disk = c.store.disk; beside = beside_of c.held.cut; frames = c.store.transactions.frames; touched = c.touched } };
 
-    ghost invariant = { λ c. Keeps D.Disk c.store c.held c.told.value };
+    ghost invariant = { λ c. StandsWithCut D.Disk c.store c.held c.told.value };
 }
 
 impl<D: Disk> Core<D> {
     /// The store as the disk stands, with no transaction open. It begins with a sync, and writes
     /// nothing.
     pub fn start(alloc: Global, disk: D) -> Result<Core<D>, (D, OpenFault)>
-        ensures world { IfOk result (λ core. IfSome (D.content disk) (λ file. core.world ≡ opened file)) }
+        ensures world { IfOk result (λ core. IfSome (D.content disk) (λ file. core.world ≡ opened_world file)) }
         ensures store { IfOk result (λ core. IfSome (D.content disk) (λ file. (store : StoreParts) × IsStore file store)) }
         // Whatever the disk tells.
         ensures just_opened { IfOk result (λ core. IsJustOpened core.world) }

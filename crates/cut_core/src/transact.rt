@@ -1,7 +1,7 @@
 //! The calls that the transactions answer.
 ghost use Rattle.std.specs.Prelude.{◌≡◌};
 ghost use Rattle.transactions.specs.Standing.{IsReadyForSome};
-ghost use Rattle.transactions.specs.Calls.{StepsWell};
+ghost use Rattle.transactions.specs.Calls.{TransactsWell};
 ghost use Rattle.cut_core.specs.Calls.{IsOfTransaction};
 ghost use Rattle.cut_core.specs.Touched.{TouchesWell};
 
@@ -18,7 +18,7 @@ pub fn transact<L: Ledger>(
 ) -> Reply
     requires ready { IsReadyForSome transactions.old }
     requires which { IsOfTransaction call.now }
-    ensures steps { StepsWell transactions.old transactions.new call.now result }
+    ensures steps { TransactsWell transactions.old transactions.new call.now result }
     ensures frames { TouchesWell transactions.old transactions.new call.now result }
 {
     match *call {

@@ -18,7 +18,7 @@ use Rattle.object_graph.specs.Members.{In}
 use Rattle.store_model.specs.Worlds.{World, OpenedCut, Note, nothing, marks, Event}
 use Rattle.store_model.specs.Causes.{has_page, first_met, first_refusal, when, broken, cut_there, spent, on_cut, is_phase, wrong_phase, no_page, already_copied, already_swept, other_cut, wrong_marks, missing, uncopied, unswept, new_name}
 use Rattle.store_model.specs.Replies.{AllowsReply, Answers, is_free}
-use Rattle.store_model.specs.Steps.{opening_of, with_page, with_new, opened, has_swept, after_refusal, after_answer, after_reply, next}
+use Rattle.store_model.specs.Steps.{opening_of, with_page, with_new, cut_opened, has_swept, after_refusal, after_answer, after_reply, next}
 use Rattle.store_model.specs.Histories.{after, IsLegal}
 use Rattle.store_model.proofs.Allowed.{first_met_none, when_none}
 use Rattle.store_model.proofs.Lists.{with_page_has, with_page_keeps}
@@ -438,7 +438,7 @@ cut_may_end w note number events may legal u runs =
     let cut : OpenedCut = record { number = w.last_cut + 1; phase = Copying; copied = []; swept = []; opening = opening_of w } in
     let whole : w.broken ≡ None = none_broken w.broken (first_met_none (broken w) (cut_there w ∷ spent w.last_cut ∷ []) may.0).0 in
     let number_is : w.last_cut + 1 ≡ number = let q : Cut number ≡ Cut (w.last_cut + 1) = may.1 in let z : number ≡ w.last_cut + 1 = cc in sym z in
-    (runs_through (opened w) events cut number (record { there = refl; sound = whole }) number_is u legal runs, refl)
+    (runs_through (cut_opened w) events cut number (record { there = refl; sound = whole }) number_is u legal runs, refl)
   where
     none_broken : (o : Option ℕ) → option_map (λ count. Broken count) o ≡ None → o ≡ None
     none_broken None h = refl

@@ -15,9 +15,9 @@ use Rattle.object_graph.specs.declared.calls.Refusal.{Refusal}
 use Rattle.object_graph.specs.declared.calls.Refusal.TheVariants.{DiskFault, NoCut, Uncopied}
 use Rattle.object_graph.specs.Slots.{below}
 use Rattle.store_model.specs.Worlds.{World, Transaction, Opening, OpenedCut, Note, nothing, starts, transaction}
-use Rattle.store_model.specs.Causes.{has_page, no_page as page_cause, already_copied, other_cut, wrong_marks, marks_of, already_swept, first_met, first_refusal, broken, is_phase, wrong_phase, missing, uncopied, new_name}
+use Rattle.store_model.specs.Causes.{has_page, no_page as page_cause, already_copied, other_cut, wrong_marks, marks_number, already_swept, first_met, first_refusal, broken, is_phase, wrong_phase, missing, uncopied, new_name}
 use Rattle.store_model.specs.Replies.{AllowsReply, Answers, MayFree}
-use Rattle.store_model.specs.Steps.{with_page, with_cut, with_new, opened, opening_of, swept, has_swept, after_refusal, after_answer, after_reply}
+use Rattle.store_model.specs.Steps.{with_page, with_cut, with_new, cut_opened, opening_of, swept, has_swept, after_refusal, after_answer, after_reply}
 use Rattle.store_model.specs.Worlds.{IsOutOfReach}
 use Rattle.object_graph.proofs.Members.{In}
 use Rattle.store_model.proofs.Allowed.{when_none, with_page_cases}
@@ -309,13 +309,13 @@ mark_stands : (w : World) (workers : ℕ) (note : Note) (pages after : CutBeside
     → MatchOption (option_map is_swept_now w.cut) (Unit {0}) (IsCutStanding (with_cut w is_swept_now) after)
 mark_stands w workers note pages after lawful next may turns stands = by_cut w.cut may turns stands
   where
-    by_cut : (o : Option OpenedCut) → first_met (broken w ∷ unwrap_or (option_map (λ cut. wrong_phase cut Closed ∷ wrong_marks cut (marks_of note) ∷ []) o) (Some NoCut ∷ [])) ≡ None
+    by_cut : (o : Option OpenedCut) → first_met (broken w ∷ unwrap_or (option_map (λ cut. wrong_phase cut Closed ∷ wrong_marks cut (marks_number note) ∷ []) o) (Some NoCut ∷ [])) ≡ None
         → MatchOption o (after ≡ pages) (TurnsBeside w (Mark workers) pages after) → MatchOption o (Unit {0}) (IsCutStanding w pages)
         → MatchOption (option_map is_swept_now o) (Unit {0}) (IsCutStanding (with_cut w is_swept_now) after)
     by_cut None h t s = tt
     by_cut (Some cut) h t s =
         mark_phase w cut cut.phase workers pages after lawful next
-        (right_phase cut Closed (cut_none w (λ cut. wrong_phase cut Closed ∷ wrong_marks cut (marks_of note) ∷ []) cut h).0) t s
+        (right_phase cut Closed (cut_none w (λ cut. wrong_phase cut Closed ∷ wrong_marks cut (marks_number note) ∷ []) cut h).0) t s
 
 sweep_phase : (w : World) (cut : OpenedCut) (phase : Phase) (page slots : ℕ) (pages after : CutBeside) → IsOrderly w → IsOrderly (swept w page slots)
     → is_phase phase Sweeping ≡ true → MayFree w cut.opening page slots → TurnsIn w cut phase (Sweep page) pages after → IsInPhase w cut phase pages → IsInPhase (swept w page slots) (has_swept page cut) phase after
@@ -346,12 +346,12 @@ sweep_stands w page slots note pages after lawful next may free turns stands = b
 
 -- ---- an opening
 
-open_stands : (w : World) (after : CutBeside) → IsOrderly w → IsOrderly (opened w) → after ≡ nothing_copied w.pages
-    → MatchOption (opened w).cut (Unit {0}) (IsCutStanding (opened w) after)
+open_stands : (w : World) (after : CutBeside) → IsOrderly w → IsOrderly (cut_opened w) → after ≡ nothing_copied w.pages
+    → MatchOption (cut_opened w).cut (Unit {0}) (IsCutStanding (cut_opened w) after)
 open_stands w after lawful next turns =
     let cut : OpenedCut = record { number = w.last_cut + 1; phase = Copying; copied = []; swept = []; opening = opening_of w } in
-    subst (λ (b : CutBeside). IsCopying (opened w) cut b.pages) (sym turns) (record {
-      keeps = opening_stays w (opened w) (opening_of w) lawful next (inl refl) (opening_is_kept w lawful);
+    subst (λ (b : CutBeside). IsCopying (cut_opened w) cut b.pages) (sym turns) (record {
+      keeps = opening_stays w (cut_opened w) (opening_of w) lawful next (inl refl) (opening_is_kept w lawful);
       all = length-replicate w.pages bare_page;
       sound = empty_cut_is_sound w w.pages;
       copied = λ page within. ap (λ (p : CutPage). is_some p.copy) (get-replicate_same w.pages page bare_page);

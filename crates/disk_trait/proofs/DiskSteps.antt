@@ -1,13 +1,13 @@
 -- How a run of calls of a disk goes on.
 use Rattle.std.proofs.Common.{◌≡◌, ◌≤◌, inl, inr, ⊎_elim, ℕ, List, Option, Some, arith, subst, ap, refl, ◌∙◌}
 use Rattle.std.specs.Prelude.{IfSome, is_some}
-use Rattle.disk_trait.specs.Disk.{Elapses, Only, IsSynced, Torn, Follows, SameImages}
+use Rattle.disk_trait.specs.Disk.{Elapses, Only, IsSynced, Torn, AreAfterStep, SameImages}
 use Rattle.disk_trait.specs.DiskFacts.{LeavesOnly, OnlyReads, KeepsDisk}
 use Rattle.disk_trait.specs.declared.disk.Disk.{Ghosts as DiskOf}
 pub use Rattle.disk_trait.proofs.NoteSteps.{torn_same}
 
 -- a crash in a write, where a crash before it left one content alone
-pub torn_from : (at n : ℕ) (old new : List ℕ → Type 0) (c : List ℕ) → Only c old → Follows (Torn at n) old new → (f : List ℕ) → new f → Torn at n c f
+pub torn_from : (at n : ℕ) (old new : List ℕ → Type 0) (c : List ℕ) → Only c old → AreAfterStep (Torn at n) old new → (f : List ℕ) → new f → Torn at n c f
 torn_from at n old new c only follows f left =
     let from = follows f left in
     subst (λ (d : List ℕ). Torn at n d f) (only from.0 from.1) from.2

@@ -20,7 +20,7 @@ use Rattle.store_model.specs.Causes.{has_page, first_met, first_refusal, when, h
 use Rattle.store_model.specs.Replies.{AllowsReply, is_free}
 use Rattle.store_model.specs.Steps.{with_page, with_name, with_target, with_transaction, reads_page, writes, makes, committed}
 use Rattle.generator.specs.Rounds.{store_pages, most_rounds}
-use Rattle.generator.specs.Between.{IsSound, IsResting, Knows, IsAlone, learnt}
+use Rattle.generator.specs.Between.{IsSoundWorld, IsResting, Knows, IsAlone, learnt}
 use Rattle.store_model.proofs.Lists.{with_name_keeps}
 use Rattle.object_graph.proofs.Paths.{name_eq_refl}
 
@@ -33,7 +33,7 @@ skip cause rest e = ap (λ c. first_met (c ∷ rest)) e
 pub free_alone : (w : World) (call : Call) (note : Note) (why : Refusal) → first_refusal w call note ≡ None → AllowsReply w call note (Refused why) → is_free call why ≡ true
 free_alone w call note why none may = subst (λ (o : Option Refusal). MatchOption o (is_free call why ≡ true) (λ first. why ≡ first)) none may
 
-pub unbroken : (w : World) → IsSound w → broken w ≡ None
+pub unbroken : (w : World) → IsSoundWorld w → broken w ≡ None
 unbroken w s = ap (option_map (λ count. Broken count)) s.whole
 
 pub uncounted : (n : ℕ) → n < MOST_COUNTED → spent n ≡ None

@@ -19,7 +19,7 @@ use Rattle.store_model.proofs.Parts.{after-append}
 use Rattle.cut_core.specs.Seen.{Seen}
 use Rattle.store_machine.specs.Faults.{NoneFailed}
 use Rattle.generator.specs.Draws.{page_drawn, field_drawn, keep_drawn}
-use Rattle.generator.specs.Rounds.{entry, made_on, kept_in, writes_of, transaction_of, IsRound, AreRounds, StopsRound, entries_of, joined}
+use Rattle.generator.specs.Rounds.{caller_entry, made_on, kept_in, writes_of, transaction_of, IsRound, AreRounds, StopsRound, entries_of, joined_rounds}
 use Rattle.generator.specs.Making.{HasRun, HasStopped}
 use Rattle.generator.specs.declared.asking.Stop.TheVariants.{Memory as ByMemory, DiskFault as ByDisk}
 use Rattle.generator.specs.declared.summary.Tally.{Tally}
@@ -48,18 +48,18 @@ kept_calm : (name : NameParts) (x : ℕ) (old : Option NameParts) → AreCalm (k
 kept_calm name x None = tt
 kept_calm name x (Some old) = by_test (keep_drawn x == 1)
   where
-    by_test : (b : Bool) → AreCalm (if b then entry (Set 1 name 0 (Some old)) Done ∷ [] else [])
+    by_test : (b : Bool) → AreCalm (if b then caller_entry (Set 1 name 0 (Some old)) Done ∷ [] else [])
     by_test true = (λ e. cc, tt)
     by_test false = tt
 
 writes_calm : (x i : ℕ) (old made : Option NameParts) → AreCalm (writes_of x i old made)
 writes_calm x i old None = (λ e. cc, tt)
 writes_calm x i old (Some name) =
-    (λ e. cc, calm_join (kept_in name x old) (entry (Set 1 root_name (field_drawn x) (Some name)) Done ∷ []) (kept_calm name x old) (λ e. cc, tt))
+    (λ e. cc, calm_join (kept_in name x old) (caller_entry (Set 1 root_name (field_drawn x) (Some name)) Done ∷ []) (kept_calm name x old) (λ e. cc, tt))
 
 transaction_calm : (x i : ℕ) (old made : Option NameParts) → AreCalm (transaction_of x i old made)
 transaction_calm x i old made =
-    (λ e. cc, (λ e. cc, (made_calm (page_drawn x) made, calm_join (writes_of x i old made) (entry (Commit 1) (Committed (i + 1)) ∷ []) (writes_calm x i old made) (λ e. cc, tt))))
+    (λ e. cc, (λ e. cc, (made_calm (page_drawn x) made, calm_join (writes_of x i old made) (caller_entry (Commit 1) (Committed (i + 1)) ∷ []) (writes_calm x i old made) (λ e. cc, tt))))
 
 answered_calm : (entries : List Entry) → AllByRecursion (λ (e : Entry). is_refused e.reply ≡ false) entries → AreCalm entries
 answered_calm [] h = tt
@@ -70,15 +70,15 @@ round_calm : (x i : ℕ) (entries : List Entry) → IsRound x i entries → AreC
 round_calm x i entries r =
     subst AreCalm (sym r.are) (calm_join (transaction_of x i r.old r.made) r.collected (transaction_calm x i r.old r.made) (answered_calm r.collected r.answered.none_refused))
 
-rounds_calm : (from i : ℕ) (rounds : List (List Entry)) → AreRounds from i rounds → AreCalm (joined rounds)
+rounds_calm : (from i : ℕ) (rounds : List (List Entry)) → AreRounds from i rounds → AreCalm (joined_rounds rounds)
 rounds_calm from i [] h = tt
-rounds_calm from i (round ∷ rounds) h = calm_join round (joined rounds) (round_calm _ i round h.0) (rounds_calm from (i + 1) rounds h.1)
+rounds_calm from i (round ∷ rounds) h = calm_join round (joined_rounds rounds) (round_calm _ i round h.0) (rounds_calm from (i + 1) rounds h.1)
 
 -- up to the call that stops it
 stopping_calm : (x i : ℕ) (why : Refusal) (entries : List Entry) → why ≢ DiskFault → StopsRound x i why entries → AreCalm entries
 stopping_calm x i why entries other s =
     subst AreCalm (sym s.are)
-    (calm_join s.first (entry s.call (Refused why) ∷ []) (calm_front s.first (entry s.call s.answer ∷ s.later) (round_calm x i _ s.round))
+    (calm_join s.first (caller_entry s.call (Refused why) ∷ []) (calm_front s.first (caller_entry s.call s.answer ∷ s.later) (round_calm x i _ s.round))
     (λ e. other (same_why why DiskFault e), tt))
   where
     same_why : (a b : Refusal) → Refused a ≡ Refused b → a ≡ b
@@ -118,13 +118,13 @@ ends_in (x ∷ history) (y ∷ es) last e =
     let r = ends_in history es last (tail_is x.entry y (entries_of history) (es ++ last ∷ []) e) in
     record { before = x ∷ r.before; event = r.event; is = ap (λ h. x ∷ h) r.is; entry_is = r.entry_is }
 
-breaks : (w : World) (e : Event) (call : Call) → e.entry ≡ entry call (Refused DiskFault) → is_some (next w e).broken ≡ true
+breaks : (w : World) (e : Event) (call : Call) → e.entry ≡ caller_entry call (Refused DiskFault) → is_some (next w e).broken ≡ true
 breaks w e call is = ap is_some (broken_now e.entry is)
   where
     broken_at : Entry → Option ℕ
     broken_at x = (next w (record { entry = x; note = e.note })).broken
 
-    broken_now : (x : Entry) → x ≡ entry call (Refused DiskFault) → broken_at x ≡ broken_at (entry call (Refused DiskFault))
+    broken_now : (x : Entry) → x ≡ caller_entry call (Refused DiskFault) → broken_at x ≡ broken_at (caller_entry call (Refused DiskFault))
     broken_now x q = ap broken_at q
 
 module _ {D : Type 0} (disks : DiskOf D) where
@@ -135,13 +135,13 @@ module _ {D : Type 0} (disks : DiskOf D) where
   pub memory_calm : (a b : Seen D) (from count : ℕ) → HasStopped disks a b from count ByMemory → disks.fault_count b.disk ≡ disks.fault_count a.disk
   memory_calm a b from count s =
       s.acts.calm (none_failed s.history (subst AreCalm (sym s.follows.are)
-      (calm_join (joined s.follows.rounds) s.follows.last (rounds_calm from 0 s.follows.rounds s.follows.each) (stopping_calm _ _ Memory s.follows.last (λ e. cc) s.follows.stops))))
+      (calm_join (joined_rounds s.follows.rounds) s.follows.last (rounds_calm from 0 s.follows.rounds s.follows.each) (stopping_calm _ _ Memory s.follows.last (λ e. cc) s.follows.stops))))
 
   pub fault_rose : (a b : Seen D) (from count : ℕ) → a.world.broken ≡ None → HasStopped disks a b from count ByDisk → Rose (disks.fault_count a.disk) (disks.fault_count b.disk)
   fault_rose a b from count whole s =
       let t = s.follows.stops in
-      let end = ends_in s.history (joined s.follows.rounds ++ t.first) (entry t.call (Refused DiskFault))
-      (s.follows.are ∙ (ap (λ es. joined s.follows.rounds ++ es) t.are ∙ sym (append_assoc (joined s.follows.rounds) t.first (entry t.call (Refused DiskFault) ∷ [])))) in
+      let end = ends_in s.history (joined_rounds s.follows.rounds ++ t.first) (caller_entry t.call (Refused DiskFault))
+      (s.follows.are ∙ (ap (λ es. joined_rounds s.follows.rounds ++ es) t.are ∙ sym (append_assoc (joined_rounds s.follows.rounds) t.first (caller_entry t.call (Refused DiskFault) ∷ [])))) in
       let last : b.world ≡ next (after a.world end.before) end.event =
       s.legal.last_is ∙ (ap (after a.world) end.is ∙ after-append a.world end.before (end.event ∷ [])) in
       s.acts.cause whole (ap (λ (w : World). is_some w.broken) last ∙ breaks (after a.world end.before) end.event t.call end.entry_is)

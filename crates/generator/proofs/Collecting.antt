@@ -12,9 +12,9 @@ use Rattle.object_graph.specs.declared.calls.Call.TheVariants.{OpenCut, Copy, Cl
 use Rattle.object_graph.specs.declared.calls.Refusal.{Refusal}
 use Rattle.object_graph.specs.declared.calls.Refusal.TheVariants.{NoPage, CutThere, NoCut, WrongPhase, AlreadyCopied, Uncopied, AlreadySwept, Unswept, OtherCut, Memory, DiskFault}
 use Rattle.store_model.specs.Worlds.{World, OpenedCut, Note}
-use Rattle.store_model.specs.Causes.{has_page, first_met, first_refusal, when, broken, on_cut, cut_there, spent, is_phase, wrong_phase, no_page, already_copied, already_swept, missing, uncopied, unswept, other_cut, wrong_marks, marks_of}
+use Rattle.store_model.specs.Causes.{has_page, first_met, first_refusal, when, broken, on_cut, cut_there, spent, is_phase, wrong_phase, no_page, already_copied, already_swept, missing, uncopied, unswept, other_cut, wrong_marks, marks_number}
 use Rattle.store_model.specs.Replies.{is_free}
-use Rattle.store_model.specs.Steps.{with_page, with_cut, opened, swept, has_swept}
+use Rattle.store_model.specs.Steps.{with_page, with_cut, cut_opened, swept, has_swept}
 use Rattle.store_model.proofs.Cuts.{below_bound}
 use Rattle.generator.specs.Rounds.{store_pages}
 use Rattle.generator.specs.Between.{IsResting, IsCollecting, IsOnlyStopped}
@@ -59,7 +59,7 @@ open_may w note r =
     skip (broken w) _ (unbroken w r.sound) ∙ (skip (cut_there w) _ (ap (option_map (λ (cut : OpenedCut). CutThere cut.number)) r.no_cut)
     ∙ skip (spent w.last_cut) [] (uncounted w.last_cut (let s = r.sound in let c = s.cuts in let f = s.few in omega arith)))
 
-pub opens : (w : World) → IsResting w → w.last_cut < w.commits → IsCollecting Copying 0 0 (opened w)
+pub opens : (w : World) → IsResting w → w.last_cut < w.commits → IsCollecting Copying 0 0 (cut_opened w)
 opens w r low = record {
   sound = record { right = r.sound.right; whole = r.sound.whole; cuts = omega arith; few = r.sound.few };
   closed = r.closed;
@@ -119,20 +119,20 @@ end_may w copied note a =
 
 -- marks that are none tell want of memory, and others are of the cut that is there
 mark_may : (w : World) (copied swept_ workers : ℕ) (note : Note) → (a : IsCollecting Closed copied swept_ w)
-    → first_refusal w (Mark workers) note ≡ first_met (wrong_marks a.cut (marks_of note) ∷ [])
+    → first_refusal w (Mark workers) note ≡ first_met (wrong_marks a.cut (marks_number note) ∷ [])
 mark_may w copied swept_ workers note a =
-    on_it Closed copied swept_ w a (λ cut. wrong_phase cut Closed ∷ wrong_marks cut (marks_of note) ∷ [])
+    on_it Closed copied swept_ w a (λ cut. wrong_phase cut Closed ∷ wrong_marks cut (marks_number note) ∷ [])
     ∙ skip (wrong_phase a.cut Closed) _ (right_phase Closed copied swept_ w a)
 
 pub mark_stops : (w : World) (copied swept_ workers : ℕ) → IsCollecting Closed copied swept_ w → IsOnlyStopped w (Mark workers)
-mark_stops w copied swept_ workers a note why present may = by_marks (marks_of note) refl
+mark_stops w copied swept_ workers a note why present may = by_marks (marks_number note) refl
   where
     free : (why : Refusal) → is_free (Mark workers) why ≡ true → (why ≡ Memory) ⊎ (why ≡ DiskFault)
     free Memory h = inl refl
     free DiskFault h = inr refl
     free _ h = cc
 
-    by_marks : (m : Option ℕ) → marks_of note ≡ m → (why ≡ Memory) ⊎ (why ≡ DiskFault)
+    by_marks : (m : Option ℕ) → marks_number note ≡ m → (why ≡ Memory) ⊎ (why ≡ DiskFault)
     by_marks None e =
         inl (subst (λ (o : Option Refusal). MatchOption o (is_free (Mark workers) why ≡ true) (λ first. why ≡ first))
         (mark_may w copied swept_ workers note a ∙ ap (λ m. first_met (wrong_marks a.cut m ∷ [])) e) may)

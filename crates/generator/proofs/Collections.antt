@@ -14,10 +14,10 @@ use Rattle.store_model.specs.Replies.{Answers}
 use Rattle.store_model.specs.Histories.{collection}
 use Rattle.cut_core.specs.Seen.{Seen}
 use Rattle.store_machine.specs.Acts.{Acts}
-use Rattle.generator.specs.Rounds.{store_pages, entry}
-use Rattle.generator.specs.Summaries.{Counts, slots_freed}
+use Rattle.generator.specs.Rounds.{store_pages, caller_entry}
+use Rattle.generator.specs.Summaries.{Counts, freed_by_reply}
 use Rattle.generator.specs.Between.{IsNeverRefused, IsOnlyStopped, IsResting, IsCollecting}
-use Rattle.generator.specs.Making.{Made, Replied, AllAnswered, HasCopied, SweepsPage, HasSwept, StopsAmong, HasCollected, why_of}
+use Rattle.generator.specs.Making.{MadeEntries, Replied, AllAnswered, HasCopied, SweepsPage, HasSwept, StopsAmong, HasCollected, why_of}
 use Rattle.generator.specs.declared.asking.Stop.{Stop}
 use Rattle.generator.proofs.Collecting.{open_may, opens, copy_may, close_may, sweep_may, end_may, copies, closes, is_marked, sweeps, ends}
 use Rattle.generator.proofs.Rounds.{answered_join, answered_once, answered_none, counts_join, counts_none}
@@ -72,16 +72,16 @@ module _ {D : Type 0} (disks : DiskOf D) where
   all_none : (s : Seen D) → Acts disks s s [] → AllAnswered disks s s [] 0 0
   all_none s acts = record { entries = []; made = made_none disks s acts; answered = answered_none; counts = counts_none; commits = refl }
 
-  all_once : (a b : Seen D) (call : Call) (reply : Reply) (f e : ℕ) → Replied disks a b call reply → Counts (entry call reply ∷ []) 0 f e → b.world.commits ≡ a.world.commits
+  all_once : (a b : Seen D) (call : Call) (reply : Reply) (f e : ℕ) → Replied disks a b call reply → Counts (caller_entry call reply ∷ []) 0 f e → b.world.commits ≡ a.world.commits
       → AllAnswered disks a b (call ∷ []) f e
   all_once a b call reply f e r counts commits =
-      record { entries = entry call reply ∷ []; made = r.made; answered = answered_once call reply r.unrefused; counts = counts; commits = commits }
+      record { entries = caller_entry call reply ∷ []; made = r.made; answered = answered_once call reply r.unrefused; counts = counts; commits = commits }
 
   -- a call that is done and counts nothing
-  all_done : (a b : Seen D) (call : Call) (reply : Reply) → Replied disks a b call reply → reply ≡ Done → Counts (entry call Done ∷ []) 0 0 0 → b.world.commits ≡ a.world.commits
+  all_done : (a b : Seen D) (call : Call) (reply : Reply) → Replied disks a b call reply → reply ≡ Done → Counts (caller_entry call Done ∷ []) 0 0 0 → b.world.commits ≡ a.world.commits
       → AllAnswered disks a b (call ∷ []) 0 0
   all_done a b call reply r done counts commits =
-      all_once a b call reply 0 0 r (subst (λ (x : Reply). Counts (entry call x ∷ []) 0 0 0) (sym done) counts) commits
+      all_once a b call reply 0 0 r (subst (λ (x : Reply). Counts (caller_entry call x ∷ []) 0 0 0) (sym done) counts) commits
 
   -- ---- copies
 
@@ -107,14 +107,14 @@ module _ {D : Type 0} (disks : DiskOf D) where
 
   -- ---- sweeps
 
-  sweep_counts : (w : World) (page : ℕ) (note : Note) (reply : Reply) → Answers w (Sweep page) note reply → Counts (entry (Sweep page) reply ∷ []) 0 (slots_freed reply) 0
+  sweep_counts : (w : World) (page : ℕ) (note : Note) (reply : Reply) → Answers w (Sweep page) note reply → Counts (caller_entry (Sweep page) reply ∷ []) 0 (freed_by_reply reply) 0
   sweep_counts w page note (Freed slots) may = record { full_is = refl; freed_is = omega arith; ended_is = refl }
   sweep_counts w page note _ may = absurd may
 
   pub page_swept : (a b : Seen D) (page : ℕ) (reply : Reply) → IsCollecting Sweeping store_pages page a.world → Replied disks a b (Sweep page) reply
-      → SweepsPage disks a b page (slots_freed reply)
+      → SweepsPage disks a b page (freed_by_reply reply)
   page_swept a b page reply c r = record {
-    part = all_once a b (Sweep page) reply (slots_freed reply) 0 r (sweep_counts a.world page r.note reply r.answers) (ap (λ (w : World). w.commits) r.is);
+    part = all_once a b (Sweep page) reply (freed_by_reply reply) 0 r (sweep_counts a.world page r.note reply r.answers) (ap (λ (w : World). w.commits) r.is);
     collecting = subst (IsCollecting Sweeping store_pages (page + 1)) (sym r.is) (sweeps a.world store_pages page _ c);
   }
 
@@ -129,12 +129,12 @@ module _ {D : Type 0} (disks : DiskOf D) where
   }
 
   pub sweep_stops : (a b c : Seen D) (page freed : ℕ) (stop : Stop) → page < store_pages → HasSwept disks a b page freed
-      → Made disks b c (entry (Sweep page) (Refused (why_of stop)) ∷ []) → StopsAmong disks a c (map (λ p. Sweep p) (below store_pages)) stop
+      → MadeEntries disks b c (caller_entry (Sweep page) (Refused (why_of stop)) ∷ []) → StopsAmong disks a c (map (λ p. Sweep p) (below store_pages)) stop
   sweep_stops a b c page freed stop low x m =
       let p = parted page store_pages low in
       record {
-        entries = x.part.entries ++ entry (Sweep page) (Refused (why_of stop)) ∷ [];
-        made = made_join disks a b c x.part.entries (entry (Sweep page) (Refused (why_of stop)) ∷ []) x.part.made m;
+        entries = x.part.entries ++ caller_entry (Sweep page) (Refused (why_of stop)) ∷ [];
+        made = made_join disks a b c x.part.entries (caller_entry (Sweep page) (Refused (why_of stop)) ∷ []) x.part.made m;
         stops = record {
           done = map (λ p. Sweep p) (below page);
           call = Sweep page;
@@ -151,7 +151,7 @@ module _ {D : Type 0} (disks : DiskOf D) where
   opened_part : (a b : Seen D) (reply : Reply) → Replied disks a b OpenCut reply → AllAnswered disks a b (OpenCut ∷ []) 0 0
   opened_part a b reply r =
       all_once a b OpenCut reply 0 0 r
-      (subst (λ (x : Reply). Counts (entry OpenCut x ∷ []) 0 0 0) (sym r.answers) (record { full_is = refl; freed_is = refl; ended_is = refl })) (ap (λ (w : World). w.commits) r.is)
+      (subst (λ (x : Reply). Counts (caller_entry OpenCut x ∷ []) 0 0 0) (sym r.answers) (record { full_is = refl; freed_is = refl; ended_is = refl })) (ap (λ (w : World). w.commits) r.is)
 
   abbrev pub closed_calls : List Call
   closed_calls = (OpenCut ∷ []) ++ (map (λ p. Copy p) (below store_pages) ++ Close ∷ [])
@@ -168,9 +168,9 @@ module _ {D : Type 0} (disks : DiskOf D) where
       all_join a d e closed_calls (Mark 4 ∷ []) 0 0 0 0 x
       (all_done d e (Mark 4) reply z z.answers (record { full_is = refl; freed_is = refl; ended_is = refl }) (ap (λ (w : World). w.commits) z.is))
 
-  pub stops_opening : (a b : Seen D) (stop : Stop) → Made disks a b (entry OpenCut (Refused (why_of stop)) ∷ []) → StopsAmong disks a b (collection store_pages 4) stop
+  pub stops_opening : (a b : Seen D) (stop : Stop) → MadeEntries disks a b (caller_entry OpenCut (Refused (why_of stop)) ∷ []) → StopsAmong disks a b (collection store_pages 4) stop
   stops_opening a b stop m = record {
-    entries = entry OpenCut (Refused (why_of stop)) ∷ [];
+    entries = caller_entry OpenCut (Refused (why_of stop)) ∷ [];
     made = m;
     stops = record {
       done = [];
@@ -184,12 +184,12 @@ module _ {D : Type 0} (disks : DiskOf D) where
   }
 
   pub stops_marking : (a b c d e : Seen D) (first second : Reply) (stop : Stop) → Replied disks a b OpenCut first → HasCopied disks b c store_pages → Replied disks c d Close second
-      → Made disks d e (entry (Mark 4) (Refused (why_of stop)) ∷ []) → StopsAmong disks a e (collection store_pages 4) stop
+      → MadeEntries disks d e (caller_entry (Mark 4) (Refused (why_of stop)) ∷ []) → StopsAmong disks a e (collection store_pages 4) stop
   stops_marking a b c d e first second stop x y z m =
       let part = closed_part a b c d first second x y z in
       record {
-        entries = part.entries ++ entry (Mark 4) (Refused (why_of stop)) ∷ [];
-        made = made_join disks a d e part.entries (entry (Mark 4) (Refused (why_of stop)) ∷ []) part.made m;
+        entries = part.entries ++ caller_entry (Mark 4) (Refused (why_of stop)) ∷ [];
+        made = made_join disks a d e part.entries (caller_entry (Mark 4) (Refused (why_of stop)) ∷ []) part.made m;
         stops = record {
           done = closed_calls;
           call = Mark 4;
@@ -217,7 +217,7 @@ module _ {D : Type 0} (disks : DiskOf D) where
           rest = s.stops.rest ++ EndCut ∷ [];
           all = ap (λ cs. calls ++ cs) behind ∙ sym (append_assoc calls s.stops.done (s.stops.call ∷ s.stops.rest ++ EndCut ∷ []));
           first = part.entries ++ s.stops.first;
-          are = ap (λ es. part.entries ++ es) s.stops.are ∙ sym (append_assoc part.entries s.stops.first (entry s.stops.call (Refused (why_of stop)) ∷ []));
+          are = ap (λ es. part.entries ++ es) s.stops.are ∙ sym (append_assoc part.entries s.stops.first (caller_entry s.stops.call (Refused (why_of stop)) ∷ []));
           answered = answered_join calls s.stops.done part.entries s.stops.first part.answered s.stops.answered;
         };
       }
@@ -228,7 +228,7 @@ module _ {D : Type 0} (disks : DiskOf D) where
       let part = marked_part a d e third (closed_part a b c d first second x y z) m in
       let calls : List Call = closed_calls ++ Mark 4 ∷ [] in
       let ending : AllAnswered disks f h (EndCut ∷ []) 0 1 =
-      all_once f h EndCut last 0 1 t (subst (λ (r : Reply). Counts (entry EndCut r ∷ []) 0 0 1) (sym t.answers) (record { full_is = refl; freed_is = refl; ended_is = refl }))
+      all_once f h EndCut last 0 1 t (subst (λ (r : Reply). Counts (caller_entry EndCut r ∷ []) 0 0 1) (sym t.answers) (record { full_is = refl; freed_is = refl; ended_is = refl }))
       (ap (λ (w : World). w.commits) t.is) in
       let whole : AllAnswered disks a h (collection store_pages 4) (0 + (freed + 0)) 1 =
       all_join a e h calls (map (λ p. Sweep p) (below store_pages) ++ EndCut ∷ []) 0 (freed + 0) 0 1 part

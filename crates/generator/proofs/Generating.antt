@@ -10,10 +10,10 @@ use Rattle.store_model.specs.Histories.{collection, after}
 use Rattle.cut_core.specs.Seen.{Seen}
 use Rattle.store_machine.specs.Acts.{Acts}
 use Rattle.generator.specs.Draws.{next_draw, drawn}
-use Rattle.generator.specs.Rounds.{store_pages, store_slots, transaction_of, collected_after, AreAnswered, IsRound, AreRounds, StopsRound, StopsCollection, entries_of, joined}
-use Rattle.generator.specs.Summaries.{Counts, full_in, freed_in, ended_in, summary_text, summary}
+use Rattle.generator.specs.Rounds.{store_pages, store_slots, transaction_of, collected_after, AreAnswered, IsRound, AreRounds, StopsRound, StopsCollection, entries_of, joined_rounds}
+use Rattle.generator.specs.Summaries.{Counts, full_in, freed_by_entries, ended_in, summary_text, summary}
 use Rattle.generator.specs.Between.{IsResting}
-use Rattle.generator.specs.Making.{Made, HasTransacted, HasCollected, StopsAmong, Stops, IsFew, HasMadeRound, HasRun, HasStopped, HasGenerated, is_full_for, why_of}
+use Rattle.generator.specs.Making.{MadeEntries, HasTransacted, HasCollected, StopsAmong, Stops, IsFew, HasMadeRound, HasRun, HasStopped, HasGenerated, is_none_made, why_of}
 use Rattle.generator.specs.declared.asking.Stop.{Stop}
 use Rattle.generator.specs.declared.summary.Tally.{Tally}
 use Rattle.generator.proofs.Rounds.{full_of, transaction_counts, counts_join, answered_none, stops_collection, are_rounds_more, joined_more, one_drawn}
@@ -31,7 +31,7 @@ not_collects i e = ap (λ b. if b then collection store_pages 4 else []) (ne_eqb
 abbrev pub one_if : Bool → ℕ
 one_if b = if b then 1 else 0
 
-full_counted : (object : Option NameParts) (full : Bool) → full ≡ is_full_for object → full_of object ≡ one_if full
+full_counted : (object : Option NameParts) (full : Bool) → full ≡ is_none_made object → full_of object ≡ one_if full
 full_counted None full e = ap one_if (sym e)
 full_counted (Some name) full e = ap one_if (sym e)
 
@@ -130,11 +130,11 @@ module _ {D : Type 0} (disks : DiskOf D) where
     pub rounds : List (List Entry)
     pub number : length rounds ≡ i
     pub each : AreRounds from 0 rounds
-    pub made : Made disks old now (joined rounds)
+    pub made : MadeEntries disks old now (joined_rounds rounds)
     pub resting : IsResting now.world
     pub commits : now.world.commits ≡ i
     pub draws : last ≡ drawn from i
-    pub counts : Counts (joined rounds) tally.full tally.freed tally.ended
+    pub counts : Counts (joined_rounds rounds) tally.full tally.freed tally.ended
     pub told : tally.commits ≡ now.world.commits
     pub counted : tally.rounds ≡ i
     pub few : IsFew tally i
@@ -159,13 +159,13 @@ module _ {D : Type 0} (disks : DiskOf D) where
       → Running a c from (i + 1) x now
   running_more a b c from i last x before now r e m =
       let at : x ≡ drawn from (i + 1) = e ∙ (ap next_draw r.draws ∙ sym (one_drawn from i)) in
-      let added : Counts (joined r.rounds ++ m.entries) (before.full + m.adds.full) (before.freed + m.adds.freed) (before.ended + m.adds.ended) =
-      counts_join (joined r.rounds) m.entries before.full before.freed before.ended m.adds.full m.adds.freed m.adds.ended r.counts m.adds.counts in
+      let added : Counts (joined_rounds r.rounds ++ m.entries) (before.full + m.adds.full) (before.freed + m.adds.freed) (before.ended + m.adds.ended) =
+      counts_join (joined_rounds r.rounds) m.entries before.full before.freed before.ended m.adds.full m.adds.freed m.adds.ended r.counts m.adds.counts in
       record {
         rounds = r.rounds ++ m.entries ∷ [];
         number = length-append r.rounds (m.entries ∷ []) ∙ ap (λ n. n + 1) r.number;
         each = are_rounds_more from 0 i r.rounds m.entries (let n = r.number in omega arith) r.each (subst (λ (y : ℕ). IsRound y i m.entries) at m.round);
-        made = subst (λ (es : List Entry). Made disks a c es) (sym (joined_more r.rounds m.entries)) (made_join disks a b c (joined r.rounds) m.entries r.made m.made);
+        made = subst (λ (es : List Entry). MadeEntries disks a c es) (sym (joined_more r.rounds m.entries)) (made_join disks a b c (joined_rounds r.rounds) m.entries r.made m.made);
         resting = m.resting;
         commits = m.commits ∙ ap (λ n. n + 1) r.commits;
         draws = at;
@@ -180,7 +180,7 @@ module _ {D : Type 0} (disks : DiskOf D) where
       → HasStopped disks a c from count stop
   running_stops a b c from i last x count tally stop low r e s =
       let at : x ≡ drawn from (i + 1) = e ∙ (ap next_draw r.draws ∙ sym (one_drawn from i)) in
-      let whole : Made disks a c (joined r.rounds ++ s.entries) = made_join disks a b c (joined r.rounds) s.entries r.made s.made in
+      let whole : MadeEntries disks a c (joined_rounds r.rounds ++ s.entries) = made_join disks a b c (joined_rounds r.rounds) s.entries r.made s.made in
       record {
         history = whole.history;
         acts = whole.acts;
@@ -203,13 +203,13 @@ module _ {D : Type 0} (disks : DiskOf D) where
       → summary_text tally.rounds tally.commits tally.full tally.freed tally.ended ≡ summary count w history
   line_is w count es history tally are rounds commits counts =
       let full : tally.full ≡ full_in (entries_of history) = sym (ap full_in are ∙ counts.full_is) in
-      let freed : tally.freed ≡ freed_in (entries_of history) = sym (ap freed_in are ∙ counts.freed_is) in
+      let freed : tally.freed ≡ freed_by_entries (entries_of history) = sym (ap freed_by_entries are ∙ counts.freed_is) in
       let ended : tally.ended ≡ ended_in (entries_of history) = sym (ap ended_in are ∙ counts.ended_is) in
       ap (λ n. summary_text n tally.commits tally.full tally.freed tally.ended) rounds
       ∙ (ap (λ n. summary_text count n tally.full tally.freed tally.ended) commits
       ∙ (ap (λ n. summary_text count (after w history).commits n tally.freed tally.ended) full
       ∙ (ap (λ n. summary_text count (after w history).commits (full_in (entries_of history)) n tally.ended) freed
-      ∙ ap (λ n. summary_text count (after w history).commits (full_in (entries_of history)) (freed_in (entries_of history)) n) ended)))
+      ∙ ap (λ n. summary_text count (after w history).commits (full_in (entries_of history)) (freed_by_entries (entries_of history)) n) ended)))
 
   pub has_run : (a b : Seen D) (from count last : ℕ) (tally : Tally) → Running a b from count last tally → HasRun disks a b from count tally
   has_run a b from count last tally r = record {
@@ -217,7 +217,7 @@ module _ {D : Type 0} (disks : DiskOf D) where
     acts = r.made.acts;
     legal = r.made.legal;
     follows = record { rounds = r.rounds; number = r.number; each = r.each; are = r.made.are };
-    line = line_is a.world count (joined r.rounds) r.made.history tally r.made.are r.counted (r.told ∙ ap (λ (w : World). w.commits) r.made.legal.last_is) r.counts;
+    line = line_is a.world count (joined_rounds r.rounds) r.made.history tally r.made.are r.counted (r.told ∙ ap (λ (w : World). w.commits) r.made.legal.last_is) r.counts;
   }
 
   pub has_generated : (a b : Seen D) (from count : ℕ) (tally : Tally) (line : List ℕ) → HasRun disks a b from count tally

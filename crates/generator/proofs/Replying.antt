@@ -14,9 +14,9 @@ use Rattle.store_model.specs.Steps.{after_reply, after_answer}
 use Rattle.store_model.specs.Histories.{is_refused}
 use Rattle.cut_core.specs.Seen.{Seen}
 use Rattle.store_machine.specs.Acts.{Answered}
-use Rattle.generator.specs.Rounds.{entry}
+use Rattle.generator.specs.Rounds.{caller_entry}
 use Rattle.generator.specs.Between.{IsNeverRefused, IsOnlyStopped}
-use Rattle.generator.specs.Making.{Made, Replied, why_of}
+use Rattle.generator.specs.Making.{MadeEntries, Replied, why_of}
 use Rattle.generator.specs.declared.asking.Stop.{Stop}
 use Rattle.generator.proofs.Alone.{free_alone}
 use Rattle.generator.proofs.Joins.{Happened, happened, made_once}
@@ -68,9 +68,9 @@ module _ {D : Type 0} (disks : DiskOf D) where
   asked old new call reply other not a = replied old new call reply a (happened _ old.world new.world call reply a.note other a.acts.runs) not
 
   pub stopped : (old new : Seen D) (call : Call) (why : Refusal) (stop : Stop) → call ≢ Reopen → Answered disks old new call (Refused why) → why_of stop ≡ why
-      → Made disks old new (entry call (Refused (why_of stop)) ∷ [])
+      → MadeEntries disks old new (caller_entry call (Refused (why_of stop)) ∷ [])
   stopped old new call why stop other a e =
-      subst (λ (r : Refusal). Made disks old new (entry call (Refused r) ∷ [])) (sym e)
+      subst (λ (r : Refusal). MadeEntries disks old new (caller_entry call (Refused r) ∷ [])) (sym e)
       (made_once disks old new call (Refused why) a (happened _ old.world new.world call (Refused why) a.note other a.acts.runs))
 
   pub stops : (old new : Seen D) (call : Call) (why : Refusal) → call ≢ Reopen → IsOnlyStopped old.world call → Answered disks old new call (Refused why) → (why ≡ Memory) ⊎ (why ≡ DiskFault)

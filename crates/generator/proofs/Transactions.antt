@@ -14,15 +14,15 @@ use Rattle.object_graph.specs.declared.calls.Refusal.{Refusal}
 use Rattle.object_graph.specs.declared.calls.Refusal.TheVariants.{PageFull}
 use Rattle.object_graph.specs.declared.calls.Entry.{Entry}
 use Rattle.store_model.specs.Worlds.{World, Transaction, Note, link, assign}
-use Rattle.store_model.specs.Causes.{first_refusal, when, page_full, free_slot, new_name, name_at, field_seen}
+use Rattle.store_model.specs.Causes.{first_refusal, when, page_full, free_slot, new_name, new_name_at, field_seen}
 use Rattle.store_model.specs.Replies.{AllowsReply, AnswersNew, is_free}
 use Rattle.store_model.specs.Steps.{after_reply, with_transaction, with_target, reads_page, writes, makes, committed}
 use Rattle.cut_core.specs.Seen.{Seen}
 use Rattle.store_machine.specs.Acts.{Acts, Answered}
 use Rattle.generator.specs.Draws.{page_drawn, field_drawn, keep_drawn}
-use Rattle.generator.specs.Rounds.{store_pages, most_rounds, entry, made_on, kept_in, writes_of}
+use Rattle.generator.specs.Rounds.{store_pages, most_rounds, caller_entry, made_on, kept_in, writes_of}
 use Rattle.generator.specs.Between.{IsNeverRefused, IsOnlyStopped, IsResting, Knows, IsAlone, learnt}
-use Rattle.generator.specs.Making.{IsUncounted, Made, Replied, MadeNew, HasBegun, GoesOn, Fills, HasTransacted, Stops, made_name, commits_told, after_new, why_of}
+use Rattle.generator.specs.Making.{IsUncounted, MadeEntries, Replied, MadeNew, HasBegun, GoesOn, Fills, HasTransacted, Stops, made_name, commits_told, after_new, why_of}
 use Rattle.generator.specs.declared.asking.Stop.{Stop}
 use Rattle.generator.proofs.Alone.{IsKnown, begin_may, begun, get_may, set_may, put_may, new_may, commit_may, changes, knows_read, knows_written, knows_made, committed_rests}
 use Rattle.generator.proofs.Rounds.{stops_begin, stops_commit}
@@ -101,8 +101,8 @@ answered_new w page note reply e may = may.1
 new_made : (w : World) (page slot : ℕ) (note : Note) (reply : Reply) → free_slot w 1 page ≡ Some slot → first_refusal w (New 1 page) note ≡ None → AllowsReply w (New 1 page) note reply
     → NewAnswered w page note reply
 new_made w page slot note reply free e may =
-    let named : new_name w 1 page ≡ Some (name_at w.graph page slot) = ap (option_map (name_at w.graph page)) free in
-    made_by_name w page note reply (name_at w.graph page slot) named
+    let named : new_name w 1 page ≡ Some (new_name_at w.graph page slot) = ap (option_map (new_name_at w.graph page)) free in
+    made_by_name w page note reply (new_name_at w.graph page slot) named
     (subst (λ (o : Option NameParts). AnswersNew o reply) named (answered_new w page note reply e may))
 
 new_answered : (w : World) (page : ℕ) (note : Note) (reply : Reply) → first_refusal w (New 1 page) note ≡ page_full w 1 page → AllowsReply w (New 1 page) note reply
@@ -159,17 +159,17 @@ module _ {D : Type 0} (disks : DiskOf D) where
   -- ---- writes
 
   pub set_goes : (a b : Seen D) (names : List NameParts) (calls : ℕ) (name : NameParts) (field : ℕ) (target : Option NameParts) (reply : Reply) → IsAlone names calls a.world
-      → Replied disks a b (Set 1 name field target) reply → GoesOn disks a b (entry (Set 1 name field target) Done ∷ []) names (calls + 1)
+      → Replied disks a b (Set 1 name field target) reply → GoesOn disks a b (caller_entry (Set 1 name field target) Done ∷ []) names (calls + 1)
   set_goes a b names calls name field target reply alone r = record {
-    made = subst (λ (x : Reply). Made disks a b (entry (Set 1 name field target) x ∷ [])) r.answers r.made;
+    made = subst (λ (x : Reply). MadeEntries disks a b (caller_entry (Set 1 name field target) x ∷ [])) r.answers r.made;
     alone = changed names names calls a.world b.world (writes (link name field target) name.page) r.is (λ t k. knows_written names calls name.page (link name field target) t k) alone;
     uncounted = uncounted_by a.world b.world (writes (link name field target) name.page) r.is;
   }
 
   pub put_goes : (a b : Seen D) (names : List NameParts) (calls : ℕ) (name : NameParts) (value : ℕ) (reply : Reply) → IsAlone names calls a.world
-      → Replied disks a b (Put 1 name value) reply → GoesOn disks a b (entry (Put 1 name value) Done ∷ []) names (calls + 1)
+      → Replied disks a b (Put 1 name value) reply → GoesOn disks a b (caller_entry (Put 1 name value) Done ∷ []) names (calls + 1)
   put_goes a b names calls name value reply alone r = record {
-    made = subst (λ (x : Reply). Made disks a b (entry (Put 1 name value) x ∷ [])) r.answers r.made;
+    made = subst (λ (x : Reply). MadeEntries disks a b (caller_entry (Put 1 name value) x ∷ [])) r.answers r.made;
     alone = changed names names calls a.world b.world (writes (assign name value) name.page) r.is (λ t k. knows_written names calls name.page (assign name value) t k) alone;
     uncounted = uncounted_by a.world b.world (writes (assign name value) name.page) r.is;
   }
@@ -180,13 +180,13 @@ module _ {D : Type 0} (disks : DiskOf D) where
   kept_goes a b x name target old reply e drawn alone r =
       let goes = set_goes a b (name ∷ learnt old (root_name ∷ [])) 3 name 0 (Some target) reply alone r in
       subst (λ (es : List Entry). GoesOn disks a b es (name ∷ learnt old (root_name ∷ [])) 4)
-      (sym (ap (kept_in name x) e ∙ ap (λ c. if c then entry (Set 1 name 0 (Some target)) Done ∷ [] else []) drawn)) goes
+      (sym (ap (kept_in name x) e ∙ ap (λ c. if c then caller_entry (Set 1 name 0 (Some target)) Done ∷ [] else []) drawn)) goes
 
   pub not_kept : (s : Seen D) (x : ℕ) (name target : NameParts) (old : Option NameParts) → old ≡ Some target → (keep_drawn x == 1) ≡ false
       → IsAlone (name ∷ learnt old (root_name ∷ [])) 3 s.world → Acts disks s s [] → GoesOn disks s s (kept_in name x old) (name ∷ learnt old (root_name ∷ [])) 4
   not_kept s x name target old e drawn alone acts =
       subst (λ (es : List Entry). GoesOn disks s s es (name ∷ learnt old (root_name ∷ [])) 4)
-      (sym (ap (kept_in name x) e ∙ ap (λ c. if c then entry (Set 1 name 0 (Some target)) Done ∷ [] else []) drawn))
+      (sym (ap (kept_in name x) e ∙ ap (λ c. if c then caller_entry (Set 1 name 0 (Some target)) Done ∷ [] else []) drawn))
       (goes_nowhere s (name ∷ learnt old (root_name ∷ [])) 3 acts alone)
 
   pub none_kept : (s : Seen D) (x : ℕ) (name : NameParts) (old : Option NameParts) → old ≡ None
@@ -200,12 +200,12 @@ module _ {D : Type 0} (disks : DiskOf D) where
       → GoesOn disks a d (writes_of x i old (Some name)) [] 5
   all_written a b c d x i field name old first last e alone p k s =
       let names : List NameParts = name ∷ learnt old (root_name ∷ []) in
-      let linked : GoesOn disks c d (entry (Set 1 root_name (field_drawn x) (Some name)) Done ∷ []) names 5 =
-      subst (λ (f : ℕ). GoesOn disks c d (entry (Set 1 root_name f (Some name)) Done ∷ []) names 5) e (set_goes c d names 4 root_name field (Some name) last k.alone s) in
+      let linked : GoesOn disks c d (caller_entry (Set 1 root_name (field_drawn x) (Some name)) Done ∷ []) names 5 =
+      subst (λ (f : ℕ). GoesOn disks c d (caller_entry (Set 1 root_name f (Some name)) Done ∷ []) names 5) e (set_goes c d names 4 root_name field (Some name) last k.alone s) in
       goes_weaker a d (writes_of x i old (Some name)) names 5 5 (omega arith)
-      (goes_join a b d (entry (Put 1 name i) Done ∷ []) (kept_in name x old ++ entry (Set 1 root_name (field_drawn x) (Some name)) Done ∷ []) names names 3 5
+      (goes_join a b d (caller_entry (Put 1 name i) Done ∷ []) (kept_in name x old ++ caller_entry (Set 1 root_name (field_drawn x) (Some name)) Done ∷ []) names names 3 5
       (put_goes a b names 2 name i first alone p)
-      (goes_join b c d (kept_in name x old) (entry (Set 1 root_name (field_drawn x) (Some name)) Done ∷ []) names names 4 5 k linked))
+      (goes_join b c d (kept_in name x old) (caller_entry (Set 1 root_name (field_drawn x) (Some name)) Done ∷ []) names names 4 5 k linked))
 
   -- ---- the object
 
@@ -215,12 +215,12 @@ module _ {D : Type 0} (disks : DiskOf D) where
       let h : Happened a.world (New 1 page) reply r.note b.world = happened _ a.world b.world (New 1 page) reply r.note (λ e. absurd cc) r.acts.runs in
       let n : NewAnswered a.world page r.note reply = new_answered a.world page r.note reply (new_may names calls a.world alone page r.note low few) h.allowed.1 in
       record {
-        entries = subst (λ (x : Reply). Made disks a b (entry (New 1 page) x ∷ [])) n.told (made_once disks a b (New 1 page) reply r h);
+        entries = subst (λ (x : Reply). MadeEntries disks a b (caller_entry (New 1 page) x ∷ [])) n.told (made_once disks a b (New 1 page) reply r h);
         is = h.is ∙ n.is;
       }
 
   pub new_goes : (a b : Seen D) (names : List NameParts) (calls page : ℕ) (made : Option NameParts) → IsAlone names calls a.world → MadeNew disks a b page made
-      → GoesOn disks a b (entry (New 1 page) (made_on page made) ∷ []) (learnt made names) (calls + 1)
+      → GoesOn disks a b (caller_entry (New 1 page) (made_on page made) ∷ []) (learnt made names) (calls + 1)
   new_goes a b names calls page None alone m =
       let same : b.world ≡ a.world = m.is in
       record {
@@ -238,28 +238,28 @@ module _ {D : Type 0} (disks : DiskOf D) where
       → IsAlone (learnt old (root_name ∷ [])) 1 a.world → MadeNew disks a b page None → Replied disks b c (Set 1 root_name field None) reply → Fills disks a c x i old true
   fills_full a b c x i page field old reply e f alone m r =
       let names : List NameParts = learnt old (root_name ∷ []) in
-      let first : GoesOn disks a b (entry (New 1 (page_drawn x)) (made_on (page_drawn x) None) ∷ []) names 2 =
-      subst (λ (p : ℕ). GoesOn disks a b (entry (New 1 p) (made_on p None) ∷ []) names 2) e (new_goes a b names 1 page None alone m) in
-      let second : GoesOn disks b c (entry (Set 1 root_name (field_drawn x) None) Done ∷ []) names 3 =
-      subst (λ (k : ℕ). GoesOn disks b c (entry (Set 1 root_name k None) Done ∷ []) names 3) f (set_goes b c names 2 root_name field None reply first.alone r) in
+      let first : GoesOn disks a b (caller_entry (New 1 (page_drawn x)) (made_on (page_drawn x) None) ∷ []) names 2 =
+      subst (λ (p : ℕ). GoesOn disks a b (caller_entry (New 1 p) (made_on p None) ∷ []) names 2) e (new_goes a b names 1 page None alone m) in
+      let second : GoesOn disks b c (caller_entry (Set 1 root_name (field_drawn x) None) Done ∷ []) names 3 =
+      subst (λ (k : ℕ). GoesOn disks b c (caller_entry (Set 1 root_name k None) Done ∷ []) names 3) f (set_goes b c names 2 root_name field None reply first.alone r) in
       record {
         object = None;
         is_full = refl;
-        goes = goes_weaker a c (entry (New 1 (page_drawn x)) (made_on (page_drawn x) None) ∷ writes_of x i old None) names 3 10 (omega arith)
-            (goes_join a b c (entry (New 1 (page_drawn x)) (made_on (page_drawn x) None) ∷ []) (writes_of x i old None) names names 2 3 first second);
+        goes = goes_weaker a c (caller_entry (New 1 (page_drawn x)) (made_on (page_drawn x) None) ∷ writes_of x i old None) names 3 10 (omega arith)
+            (goes_join a b c (caller_entry (New 1 (page_drawn x)) (made_on (page_drawn x) None) ∷ []) (writes_of x i old None) names names 2 3 first second);
       }
 
   pub fills_made : (a b c : Seen D) (x i page : ℕ) (old : Option NameParts) (name : NameParts) → page ≡ page_drawn x
       → IsAlone (learnt old (root_name ∷ [])) 1 a.world → MadeNew disks a b page (Some name) → GoesOn disks b c (writes_of x i old (Some name)) [] 5 → Fills disks a c x i old false
   fills_made a b c x i page old name e alone m written =
       let names : List NameParts = learnt old (root_name ∷ []) in
-      let first : GoesOn disks a b (entry (New 1 (page_drawn x)) (made_on (page_drawn x) (Some name)) ∷ []) (name ∷ names) 2 =
-      subst (λ (p : ℕ). GoesOn disks a b (entry (New 1 p) (made_on p (Some name)) ∷ []) (name ∷ names) 2) e (new_goes a b names 1 page (Some name) alone m) in
+      let first : GoesOn disks a b (caller_entry (New 1 (page_drawn x)) (made_on (page_drawn x) (Some name)) ∷ []) (name ∷ names) 2 =
+      subst (λ (p : ℕ). GoesOn disks a b (caller_entry (New 1 p) (made_on p (Some name)) ∷ []) (name ∷ names) 2) e (new_goes a b names 1 page (Some name) alone m) in
       record {
         object = Some name;
         is_full = refl;
-        goes = goes_weaker a c (entry (New 1 (page_drawn x)) (made_on (page_drawn x) (Some name)) ∷ writes_of x i old (Some name)) [] 5 10 (omega arith)
-            (goes_join a b c (entry (New 1 (page_drawn x)) (made_on (page_drawn x) (Some name)) ∷ []) (writes_of x i old (Some name)) (name ∷ names) [] 2 5 first written);
+        goes = goes_weaker a c (caller_entry (New 1 (page_drawn x)) (made_on (page_drawn x) (Some name)) ∷ writes_of x i old (Some name)) [] 5 10 (omega arith)
+            (goes_join a b c (caller_entry (New 1 (page_drawn x)) (made_on (page_drawn x) (Some name)) ∷ []) (writes_of x i old (Some name)) (name ∷ names) [] 2 5 first written);
       }
 
   -- ---- the beginning
@@ -280,8 +280,8 @@ module _ {D : Type 0} (disks : DiskOf D) where
       let alone : IsAlone (learnt seen (root_name ∷ [])) 1 c.world =
       changed (root_name ∷ []) (learnt seen (root_name ∷ [])) 0 b.world c.world read s.is (λ t k. knows_read (root_name ∷ []) 0 0 seen t k) (begun_alone a b reply rest r) in
       record {
-        made = made_join disks a b c (entry (Begin 1) Done ∷ []) (entry (Get 1 root_name field) (Ref target) ∷ [])
-            (subst (λ (x : Reply). Made disks a b (entry (Begin 1) x ∷ [])) r.answers r.made) s.made;
+        made = made_join disks a b c (caller_entry (Begin 1) Done ∷ []) (caller_entry (Get 1 root_name field) (Ref target) ∷ [])
+            (subst (λ (x : Reply). MadeEntries disks a b (caller_entry (Begin 1) x ∷ [])) r.answers r.made) s.made;
         alone = subst (λ (o : Option NameParts). IsAlone (learnt o (root_name ∷ [])) 1 c.world) same alone;
         uncounted = uncounted_join a.world b.world c.world (record { commits = ap (λ (w : World). w.commits) r.is; cuts = ap (λ (w : World). w.last_cut) r.is })
             (uncounted_by b.world c.world read s.is);
@@ -302,28 +302,28 @@ module _ {D : Type 0} (disks : DiskOf D) where
         object = fills.object;
         is_full = fills.is_full;
         told = ap commits_told r.answers ∙ sym count;
-        made = made_join disks a b d (entry (Begin 1) Done ∷ entry (Get 1 root_name (field_drawn x)) (Ref old) ∷ [])
-            ((entry (New 1 (page_drawn x)) (made_on (page_drawn x) fills.object) ∷ writes_of x i old fills.object) ++ entry (Commit 1) (Committed (i + 1)) ∷ [])
-            (subst (λ (f : ℕ). Made disks a b (entry (Begin 1) Done ∷ entry (Get 1 root_name f) (Ref old) ∷ [])) e begun.made)
-            (made_join disks b c d (entry (New 1 (page_drawn x)) (made_on (page_drawn x) fills.object) ∷ writes_of x i old fills.object) (entry (Commit 1) (Committed (i + 1)) ∷ [])
-            fills.goes.made (subst (λ (y : Reply). Made disks c d (entry (Commit 1) y ∷ [])) told r.made));
+        made = made_join disks a b d (caller_entry (Begin 1) Done ∷ caller_entry (Get 1 root_name (field_drawn x)) (Ref old) ∷ [])
+            ((caller_entry (New 1 (page_drawn x)) (made_on (page_drawn x) fills.object) ∷ writes_of x i old fills.object) ++ caller_entry (Commit 1) (Committed (i + 1)) ∷ [])
+            (subst (λ (f : ℕ). MadeEntries disks a b (caller_entry (Begin 1) Done ∷ caller_entry (Get 1 root_name f) (Ref old) ∷ [])) e begun.made)
+            (made_join disks b c d (caller_entry (New 1 (page_drawn x)) (made_on (page_drawn x) fills.object) ∷ writes_of x i old fills.object) (caller_entry (Commit 1) (Committed (i + 1)) ∷ [])
+            fills.goes.made (subst (λ (y : Reply). MadeEntries disks c d (caller_entry (Commit 1) y ∷ [])) told r.made));
         resting = subst IsResting (sym committed_now) (committed_rests [] 10 c.world fills.goes.alone (omega arith));
         commits = count ∙ ap (λ n. n + 1) (fills.goes.uncounted.commits ∙ begun.uncounted.commits);
         cuts = let s = fills.goes.alone.sound in let le = s.cuts in omega arith;
       }
 
-  pub stopped_begin : (a b : Seen D) (x i : ℕ) (stop : Stop) → Made disks a b (entry (Begin 1) (Refused (why_of stop)) ∷ []) → Stops disks a b x i stop
-  stopped_begin a b x i stop m = record { entries = entry (Begin 1) (Refused (why_of stop)) ∷ []; made = m; stops = stops_begin x i (why_of stop) }
+  pub stopped_begin : (a b : Seen D) (x i : ℕ) (stop : Stop) → MadeEntries disks a b (caller_entry (Begin 1) (Refused (why_of stop)) ∷ []) → Stops disks a b x i stop
+  stopped_begin a b x i stop m = record { entries = caller_entry (Begin 1) (Refused (why_of stop)) ∷ []; made = m; stops = stops_begin x i (why_of stop) }
 
   pub stopped_commit : (a b c d : Seen D) (x i field : ℕ) (old : Option NameParts) (full : Bool) (stop : Stop) → field ≡ field_drawn x
-      → HasBegun disks a b field old → Fills disks b c x i old full → Made disks c d (entry (Commit 1) (Refused (why_of stop)) ∷ []) → Stops disks a d x i stop
+      → HasBegun disks a b field old → Fills disks b c x i old full → MadeEntries disks c d (caller_entry (Commit 1) (Refused (why_of stop)) ∷ []) → Stops disks a d x i stop
   stopped_commit a b c d x i field old full stop e begun fills m = record {
-    entries = (entry (Begin 1) Done ∷ entry (Get 1 root_name (field_drawn x)) (Ref old) ∷ [])
-        ++ ((entry (New 1 (page_drawn x)) (made_on (page_drawn x) fills.object) ∷ writes_of x i old fills.object) ++ entry (Commit 1) (Refused (why_of stop)) ∷ []);
-    made = made_join disks a b d (entry (Begin 1) Done ∷ entry (Get 1 root_name (field_drawn x)) (Ref old) ∷ [])
-        ((entry (New 1 (page_drawn x)) (made_on (page_drawn x) fills.object) ∷ writes_of x i old fills.object) ++ entry (Commit 1) (Refused (why_of stop)) ∷ [])
-        (subst (λ (f : ℕ). Made disks a b (entry (Begin 1) Done ∷ entry (Get 1 root_name f) (Ref old) ∷ [])) e begun.made)
-        (made_join disks b c d (entry (New 1 (page_drawn x)) (made_on (page_drawn x) fills.object) ∷ writes_of x i old fills.object) (entry (Commit 1) (Refused (why_of stop)) ∷ [])
+    entries = (caller_entry (Begin 1) Done ∷ caller_entry (Get 1 root_name (field_drawn x)) (Ref old) ∷ [])
+        ++ ((caller_entry (New 1 (page_drawn x)) (made_on (page_drawn x) fills.object) ∷ writes_of x i old fills.object) ++ caller_entry (Commit 1) (Refused (why_of stop)) ∷ []);
+    made = made_join disks a b d (caller_entry (Begin 1) Done ∷ caller_entry (Get 1 root_name (field_drawn x)) (Ref old) ∷ [])
+        ((caller_entry (New 1 (page_drawn x)) (made_on (page_drawn x) fills.object) ∷ writes_of x i old fills.object) ++ caller_entry (Commit 1) (Refused (why_of stop)) ∷ [])
+        (subst (λ (f : ℕ). MadeEntries disks a b (caller_entry (Begin 1) Done ∷ caller_entry (Get 1 root_name f) (Ref old) ∷ [])) e begun.made)
+        (made_join disks b c d (caller_entry (New 1 (page_drawn x)) (made_on (page_drawn x) fills.object) ∷ writes_of x i old fills.object) (caller_entry (Commit 1) (Refused (why_of stop)) ∷ [])
         fills.goes.made m);
     stops = stops_commit x i old fills.object (why_of stop);
   }

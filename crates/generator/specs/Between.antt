@@ -30,12 +30,12 @@ pub record AreSound (pages : ℕ) (broken : Option ℕ) (last_cut commits : ℕ)
   pub cuts : last_cut ≤ commits
   pub few : commits ≤ most_rounds
 
-abbrev pub IsSound : World → Type 0
-IsSound w = AreSound w.pages w.broken w.last_cut w.commits
+abbrev pub IsSoundWorld : World → Type 0
+IsSoundWorld w = AreSound w.pages w.broken w.last_cut w.commits
 
 -- nothing is going on: no transaction is open and no cut is there
 pub record IsResting (w : World) : Type 0 where
-  pub sound : IsSound w
+  pub sound : IsSoundWorld w
   pub closed : w.transactions ≡ []
   pub no_cut : w.cut ≡ None
 
@@ -48,7 +48,7 @@ pub record Knows (names : List NameParts) (calls : ℕ) (t : Transaction) : Type
 
 -- transaction 1 is open alone, and knows these names
 pub record IsAlone (names : List NameParts) (calls : ℕ) (w : World) : Type 0 where
-  pub sound : IsSound w
+  pub sound : IsSoundWorld w
   pub no_cut : w.cut ≡ None
   pub transaction : Transaction
   pub only : w.transactions ≡ transaction ∷ []
@@ -56,7 +56,7 @@ pub record IsAlone (names : List NameParts) (calls : ℕ) (w : World) : Type 0 w
 
 -- a cut is there in this phase, of which the pages below two numbers are copied and swept
 pub record IsCollecting (phase : Phase) (copied swept : ℕ) (w : World) : Type 0 where
-  pub sound : IsSound w
+  pub sound : IsSoundWorld w
   pub closed : w.transactions ≡ []
   pub cut : OpenedCut
   pub there : w.cut ≡ Some cut

@@ -19,7 +19,7 @@ use Rattle.store_model.specs.Histories.{collection, is_refused}
 use Rattle.cut_core.specs.Seen.{Seen}
 use Rattle.store_machine.specs.Acts.{Acts, IsLegalRun}
 use Rattle.generator.specs.Draws.{page_drawn}
-use Rattle.generator.specs.Rounds.{store_pages, store_slots, entry, made_on, writes_of, transaction_of, AreAnswered, IsRound, StopsRound, StopsCollection, FollowsGenerator, StopsGenerator, entries_of}
+use Rattle.generator.specs.Rounds.{store_pages, store_slots, caller_entry, made_on, writes_of, transaction_of, AreAnswered, IsRound, StopsRound, StopsCollection, FollowsGenerator, StopsGenerator, entries_of}
 use Rattle.generator.specs.Summaries.{Counts, summary_text, summary}
 use Rattle.generator.specs.Between.{IsResting, IsAlone, IsCollecting, learnt}
 use Rattle.generator.specs.declared.asking.Stop.{Stop}
@@ -37,9 +37,9 @@ pub record IsUncounted (old new : World) : Type 0 where
   pub cuts : new.last_cut ≡ old.last_cut
 
 -- whether no object was made
-abbrev pub is_full_for : Option NameParts → Bool
-is_full_for None = true
-is_full_for (Some name) = false
+abbrev pub is_none_made : Option NameParts → Bool
+is_none_made None = true
+is_none_made (Some name) = false
 
 -- the name that a reply says was made
 abbrev pub made_name : Reply → Option NameParts
@@ -65,7 +65,7 @@ after_new w (Some name) = with_transaction w 1 (makes name)
 -- What follows speaks of a store over a disk with these members.
 module _ {D : Type 0} (disks : DiskOf D) where
   -- the store made these entries, a legal history
-  pub record Made (old new : Seen D) (entries : List Entry) : Type 0 where
+  pub record MadeEntries (old new : Seen D) (entries : List Entry) : Type 0 where
     pub history : List Event
     pub acts : Acts disks old new history
     pub legal : IsLegalRun old.world history new.world
@@ -75,7 +75,7 @@ module _ {D : Type 0} (disks : DiskOf D) where
 
   -- the store answered the call
   pub record Replied (old new : Seen D) (call : Call) (reply : Reply) : Type 0 where
-    pub made : Made old new (entry call reply ∷ [])
+    pub made : MadeEntries old new (caller_entry call reply ∷ [])
     pub unrefused : is_refused reply ≡ false
     pub note : Note
     pub answers : Answers old.world call note reply
@@ -84,44 +84,44 @@ module _ {D : Type 0} (disks : DiskOf D) where
   -- it answered it, or the run stops
   abbrev pub Asked : Seen D → Seen D → Call → Result Reply Stop → Type 0
   Asked old new call (Ok reply) = Replied old new call reply
-  Asked old new call (Err stop) = Made old new (entry call (Refused (why_of stop)) ∷ [])
+  Asked old new call (Err stop) = MadeEntries old new (caller_entry call (Refused (why_of stop)) ∷ [])
 
   -- an object was made on the page, or that is full
   pub record MadeNew (old new : Seen D) (page : ℕ) (made : Option NameParts) : Type 0 where
-    pub entries : Made old new (entry (New 1 page) (made_on page made) ∷ [])
+    pub entries : MadeEntries old new (caller_entry (New 1 page) (made_on page made) ∷ [])
     pub is : new.world ≡ after_new old.world made
 
   -- ---- a transaction
 
   pub record HasBegun (old new : Seen D) (field : ℕ) (target : Option NameParts) : Type 0 where
-    pub made : Made old new (entry (Begin 1) Done ∷ entry (Get 1 root_name field) (Ref target) ∷ [])
+    pub made : MadeEntries old new (caller_entry (Begin 1) Done ∷ caller_entry (Get 1 root_name field) (Ref target) ∷ [])
     pub alone : IsAlone (learnt target (root_name ∷ [])) 1 new.world
     pub uncounted : IsUncounted old.world new.world
 
-  abbrev pub Begins : Seen D → Seen D → ℕ → Result (Option NameParts) Stop → Type 0
-  Begins old new field (Ok target) = HasBegun old new field target
-  Begins old new field (Err stop) = Made old new (entry (Begin 1) (Refused (why_of stop)) ∷ [])
+  abbrev pub BeginsRound : Seen D → Seen D → ℕ → Result (Option NameParts) Stop → Type 0
+  BeginsRound old new field (Ok target) = HasBegun old new field target
+  BeginsRound old new field (Err stop) = MadeEntries old new (caller_entry (Begin 1) (Refused (why_of stop)) ∷ [])
 
   -- these entries of the one open transaction were made, which knows these names afterwards
   pub record GoesOn (old new : Seen D) (entries : List Entry) (names : List NameParts) (calls : ℕ) : Type 0 where
-    pub made : Made old new entries
+    pub made : MadeEntries old new entries
     pub alone : IsAlone names calls new.world
     pub uncounted : IsUncounted old.world new.world
 
   -- the object of a round was made and written, or the page was full
   pub record Fills (old new : Seen D) (x i : ℕ) (before : Option NameParts) (full : Bool) : Type 0 where
     pub object : Option NameParts
-    pub is_full : full ≡ is_full_for object
-    pub goes : GoesOn old new (entry (New 1 (page_drawn x)) (made_on (page_drawn x) object)
+    pub is_full : full ≡ is_none_made object
+    pub goes : GoesOn old new (caller_entry (New 1 (page_drawn x)) (made_on (page_drawn x) object)
         ∷ writes_of x i before object) [] 10
 
   -- the transaction of a round was committed
   pub record HasTransacted (old new : Seen D) (x i : ℕ) (full : Bool) (number : ℕ) : Type 0 where
     pub before : Option NameParts
     pub object : Option NameParts
-    pub is_full : full ≡ is_full_for object
+    pub is_full : full ≡ is_none_made object
     pub told : number ≡ new.world.commits
-    pub made : Made old new (transaction_of x i before object)
+    pub made : MadeEntries old new (transaction_of x i before object)
     pub resting : IsResting new.world
     pub commits : new.world.commits ≡ old.world.commits + 1
     pub cuts : new.world.last_cut < new.world.commits
@@ -129,7 +129,7 @@ module _ {D : Type 0} (disks : DiskOf D) where
   -- entries were made that stop a round
   pub record Stops (old new : Seen D) (x i : ℕ) (stop : Stop) : Type 0 where
     pub entries : List Entry
-    pub made : Made old new entries
+    pub made : MadeEntries old new entries
     pub stops : StopsRound x i (why_of stop) entries
 
   abbrev pub Transacts : Seen D → Seen D → ℕ → ℕ → Result (Bool × ℕ) Stop → Type 0
@@ -141,7 +141,7 @@ module _ {D : Type 0} (disks : DiskOf D) where
   -- these calls were made, none of which is a commit, and none was refused: so many slots were freed and cuts ended
   pub record AllAnswered (old new : Seen D) (calls : List Call) (freed ended : ℕ) : Type 0 where
     pub entries : List Entry
-    pub made : Made old new entries
+    pub made : MadeEntries old new entries
     pub answered : AreAnswered calls entries
     pub counts : Counts entries 0 freed ended
     pub commits : new.world.commits ≡ old.world.commits
@@ -158,7 +158,7 @@ module _ {D : Type 0} (disks : DiskOf D) where
 
   abbrev pub SweptPage : Seen D → Seen D → ℕ → Result ℕ Stop → Type 0
   SweptPage old new page (Ok freed) = SweepsPage old new page freed
-  SweptPage old new page (Err stop) = Made old new (entry (Sweep page) (Refused (why_of stop)) ∷ [])
+  SweptPage old new page (Err stop) = MadeEntries old new (caller_entry (Sweep page) (Refused (why_of stop)) ∷ [])
 
   -- the pages below this one were swept
   pub record HasSwept (old new : Seen D) (page freed : ℕ) : Type 0 where
@@ -168,7 +168,7 @@ module _ {D : Type 0} (disks : DiskOf D) where
   -- a list of calls was made up to one that was refused
   pub record StopsAmong (old new : Seen D) (calls : List Call) (stop : Stop) : Type 0 where
     pub entries : List Entry
-    pub made : Made old new entries
+    pub made : MadeEntries old new entries
     pub stops : StopsCollection calls (why_of stop) entries
 
   abbrev pub Swept : Seen D → Seen D → Result ℕ Stop → Type 0
@@ -187,7 +187,7 @@ module _ {D : Type 0} (disks : DiskOf D) where
   -- ---- rounds
 
   -- the counts of a run grow by those of these entries
-  pub record Adds (old new : Tally) (entries : List Entry) : Type 0 where
+  pub record TallyGrows (old new : Tally) (entries : List Entry) : Type 0 where
     pub full : ℕ
     pub freed : ℕ
     pub ended : ℕ
@@ -199,9 +199,9 @@ module _ {D : Type 0} (disks : DiskOf D) where
   -- a whole round was made
   pub record HasMadeRound (old new : Seen D) (x i : ℕ) (before now : Tally) : Type 0 where
     pub entries : List Entry
-    pub made : Made old new entries
+    pub made : MadeEntries old new entries
     pub round : IsRound x i entries
-    pub adds : Adds before now entries
+    pub adds : TallyGrows before now entries
     pub counted : now.rounds ≡ before.rounds + 1
     pub told : now.commits ≡ new.world.commits
     pub few : IsFew now (i + 1)

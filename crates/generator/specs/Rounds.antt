@@ -30,8 +30,8 @@ abbrev pub most_rounds : ℕ
 most_rounds = MOST_ROUNDS
 
 -- a call of the one caller, with its reply
-abbrev pub entry : Call → Reply → Entry
-entry call reply = record { lane = 1; call = call; reply = reply }
+abbrev pub caller_entry : Call → Reply → Entry
+caller_entry call reply = record { lane = 1; call = call; reply = reply }
 
 -- the reply to New: the name that was made, or none where the page is full
 abbrev pub made_on : ℕ → Option NameParts → Reply
@@ -41,20 +41,20 @@ made_on page (Some name) = Made name
 -- the new object keeps what stood in the root's field, where that is drawn and something stood there
 abbrev pub kept_in : NameParts → ℕ → Option NameParts → List Entry
 kept_in name x None = []
-kept_in name x (Some old) = if keep_drawn x == 1 then entry (Set 1 name 0 (Some old)) Done ∷ [] else []
+kept_in name x (Some old) = if keep_drawn x == 1 then caller_entry (Set 1 name 0 (Some old)) Done ∷ [] else []
 
 -- what is written: the round's number and perhaps the old name into the new object, and the new name into the root
 abbrev pub writes_of : ℕ → ℕ → Option NameParts → Option NameParts → List Entry
-writes_of x i old None = entry (Set 1 root_name (field_drawn x) None) Done ∷ []
+writes_of x i old None = caller_entry (Set 1 root_name (field_drawn x) None) Done ∷ []
 writes_of x i old (Some name) =
-    entry (Put 1 name i) Done ∷ (kept_in name x old ++ entry (Set 1 root_name (field_drawn x) (Some name)) Done ∷ [])
+    caller_entry (Put 1 name i) Done ∷ (kept_in name x old ++ caller_entry (Set 1 root_name (field_drawn x) (Some name)) Done ∷ [])
 
 -- the transaction of round i, for which x was drawn, where `old` stood in the root's field and `made` was made
 abbrev pub transaction_of : ℕ → ℕ → Option NameParts → Option NameParts → List Entry
 transaction_of x i old made =
-    (entry (Begin 1) Done ∷ entry (Get 1 root_name (field_drawn x)) (Ref old)
-    ∷ entry (New 1 (page_drawn x)) (made_on (page_drawn x) made) ∷ [])
-    ++ (writes_of x i old made ++ entry (Commit 1) (Committed (i + 1)) ∷ [])
+    (caller_entry (Begin 1) Done ∷ caller_entry (Get 1 root_name (field_drawn x)) (Ref old)
+    ∷ caller_entry (New 1 (page_drawn x)) (made_on (page_drawn x) made) ∷ [])
+    ++ (writes_of x i old made ++ caller_entry (Commit 1) (Committed (i + 1)) ∷ [])
 
 -- every 32nd round collects, by four markers
 abbrev pub collected_after : ℕ → List Call
@@ -72,7 +72,7 @@ pub record StopsCollection (calls : List Call) (why : Refusal) (entries : List E
   pub rest : List Call
   pub all : calls ≡ done ++ call ∷ rest
   pub first : List Entry
-  pub are : entries ≡ first ++ entry call (Refused why) ∷ []
+  pub are : entries ≡ first ++ caller_entry call (Refused why) ∷ []
   pub answered : AreAnswered done first
 
 -- the entries are those of round i, for which x was drawn
@@ -92,23 +92,23 @@ AreRounds from i (round ∷ rounds) = IsRound (drawn from (i + 1)) i round × Ar
 pub record StopsRound (x i : ℕ) (why : Refusal) (entries : List Entry) : Type 0 where
   pub first : List Entry
   pub call : Call
-  pub are : entries ≡ first ++ entry call (Refused why) ∷ []
+  pub are : entries ≡ first ++ caller_entry call (Refused why) ∷ []
   pub answer : Reply
   pub later : List Entry
-  pub round : IsRound x i (first ++ entry call answer ∷ later)
+  pub round : IsRound x i (first ++ caller_entry call answer ∷ later)
 
 abbrev pub entries_of : List Event → List Entry
 entries_of history = map (λ (e : Event). e.entry) history
 
-abbrev pub joined : List (List Entry) → List Entry
-joined rounds = flat_map (λ (round : List Entry). round) rounds
+abbrev pub joined_rounds : List (List Entry) → List Entry
+joined_rounds rounds = flat_map (λ (round : List Entry). round) rounds
 
 -- the history is a run of so many rounds from this number
 pub record FollowsGenerator (from count : ℕ) (history : List Event) : Type 0 where
   pub rounds : List (List Entry)
   pub number : length rounds ≡ count
   pub each : AreRounds from 0 rounds
-  pub are : entries_of history ≡ joined rounds
+  pub are : entries_of history ≡ joined_rounds rounds
 
 -- the history is such a run up to a call that was refused
 pub record StopsGenerator (from count : ℕ) (why : Refusal) (history : List Event) : Type 0 where
@@ -117,4 +117,4 @@ pub record StopsGenerator (from count : ℕ) (why : Refusal) (history : List Eve
   pub few : length rounds < count
   pub each : AreRounds from 0 rounds
   pub stops : StopsRound (drawn from (length rounds + 1)) (length rounds) why last
-  pub are : entries_of history ≡ joined rounds ++ last
+  pub are : entries_of history ≡ joined_rounds rounds ++ last

@@ -17,9 +17,9 @@ is_full (Refused (PageFull page)) = true
 is_full reply = false
 
 -- how many slots a reply says that are freed
-abbrev pub slots_freed : Reply → ℕ
-slots_freed (Freed slots) = length (slots_in slots)
-slots_freed reply = 0
+abbrev pub freed_by_reply : Reply → ℕ
+freed_by_reply (Freed slots) = length (slots_in slots)
+freed_by_reply reply = 0
 
 -- the call ended a cut
 abbrev pub ends_cut : Call → Reply → Bool
@@ -29,8 +29,8 @@ ends_cut call reply = false
 abbrev pub full_in : List Entry → ℕ
 full_in entries = count_by (λ (e : Entry). is_full e.reply) entries
 
-abbrev pub freed_in : List Entry → ℕ
-freed_in entries = sum_by (λ (e : Entry). slots_freed e.reply) entries
+abbrev pub freed_by_entries : List Entry → ℕ
+freed_by_entries entries = sum_by (λ (e : Entry). freed_by_reply e.reply) entries
 
 abbrev pub ended_in : List Entry → ℕ
 ended_in entries = count_by (λ (e : Entry). ends_cut e.call e.reply) entries
@@ -38,7 +38,7 @@ ended_in entries = count_by (λ (e : Entry). ends_cut e.call e.reply) entries
 -- what a list of entries counts: the replies that a page is full, the slots freed and the cuts ended
 pub record Counts (entries : List Entry) (full freed ended : ℕ) : Type 0 where
   pub full_is : full_in entries ≡ full
-  pub freed_is : freed_in entries ≡ freed
+  pub freed_is : freed_by_entries entries ≡ freed
   pub ended_is : ended_in entries ≡ ended
 
 -- the line of these numbers
@@ -50,5 +50,5 @@ summary_text rounds commits full freed ended =
 -- the line of a run of so many rounds, from a world on
 abbrev pub summary : ℕ → World → List Event → List ℕ
 summary rounds w history =
-    summary_text rounds (after w history).commits (full_in (entries_of history)) (freed_in (entries_of history))
+    summary_text rounds (after w history).commits (full_in (entries_of history)) (freed_by_entries (entries_of history))
     (ended_in (entries_of history))

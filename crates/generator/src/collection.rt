@@ -3,7 +3,7 @@ ghost use Rattle.std.specs.Prelude.{◌≡◌, ◌≤◌, ◌<◌, length, IfOk}
 ghost use Rattle.object_graph.specs.Slots.{slots_in};
 ghost use Rattle.object_graph.specs.declared.calls.Phase.TheVariants.{Copying, Sweeping};
 ghost use Rattle.generator.specs.Rounds.{store_pages, store_slots};
-ghost use Rattle.generator.specs.Summaries.{slots_freed};
+ghost use Rattle.generator.specs.Summaries.{freed_by_reply};
 ghost use Rattle.generator.specs.Between.{IsCollecting, IsResting};
 ghost use Rattle.generator.specs.Making.{Collects, HasCopied, Swept, SweptPage};
 
@@ -104,7 +104,7 @@ fn sweep_page<T: Threads + Sync, D: Disk, L: Ledger>(
 
 /// How many slots a reply says that are freed.
 fn freed_by(reply: Reply) -> u64
-    ensures count { result ≡ slots_freed reply }
+    ensures count { result ≡ freed_by_reply reply }
     ensures few { result ≤ MOST_SLOTS }
 {
     match reply {

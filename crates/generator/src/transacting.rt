@@ -4,7 +4,7 @@ ghost use Rattle.object_graph.specs.Names.{root_name};
 ghost use Rattle.generator.specs.Draws.{field_drawn, keep_drawn, page_drawn};
 ghost use Rattle.generator.specs.Rounds.{kept_in, most_rounds, store_pages, writes_of};
 ghost use Rattle.generator.specs.Between.{IsAlone, IsResting, learnt};
-ghost use Rattle.generator.specs.Making.{Begins, Fills, GoesOn, MadeNew, Transacts, commits_told, made_name};
+ghost use Rattle.generator.specs.Making.{BeginsRound, Fills, GoesOn, MadeNew, Transacts, commits_told, made_name};
 
 use crate::asking::{Stop, ask, tell};
 use disk_trait::Disk;
@@ -73,7 +73,7 @@ fn begin<T: Threads + Sync, D: Disk, L: Ledger>(
 ) -> Result<Option<Name>, Stop>
     requires resting { IsResting machine.old.world }
     requires field { field < OBJECT_FIELDS }
-    ensures { Begins ⟦<D as Disk>⟧ machine.old machine.new field result }
+    ensures { BeginsRound ⟦<D as Disk>⟧ machine.old machine.new field result }
 {
     if let Err(stop) = ask(machine, threads, Call::Begin { txn: TXN }, steps) {
         return Err(stop);

@@ -2,7 +2,7 @@
 use Rattle.std.proofs.Common.{◌≡◌, ℕ, ◌+◌, ◌<◌, ◌≤◌, List, [], ◌∷◌, ◌++◌, length, take, Result, Ok, sym, ◌∙◌, ap, subst, arith, ◌⊎◌, inl, inr}
 use Rattle.disk_trait.specs.Disk.{Torn}
 use Rattle.object_graph.specs.Slots.{below}
-use Rattle.redo_journal.specs.Area.{Contents, Holds, HoldsBeforeOrAfter, area_start}
+use Rattle.redo_journal.specs.Area.{Contents, AreaHolds, HoldsBeforeOrAfter, area_start}
 use Rattle.redo_journal.specs.declared.sizes.TheConstants.{AREA_SIZE}
 use Rattle.redo_journal.specs.Homes.{home_of, store_size}
 use Rattle.redo_journal.specs.Journals.{JournalParts, IsAppendedOrNot, IsAppended, appended}
@@ -72,11 +72,11 @@ module _ (file other : List ℕ) (pages : ℕ) (s : State) (journal : JournalPar
   small = area_below file (super_for journal) own.active
 
   -- the other's active area, where it holds these records
-  active_now : (now : List RecordParts) → Holds (grammar journal.pages) journal.area journal.base now other → active_of opens.super other ≡ Ok (record { base = opens.held.base; records = now })
+  active_now : (now : List RecordParts) → AreaHolds (grammar journal.pages) journal.area journal.base now other → active_of opens.super other ≡ Ok (record { base = opens.held.base; records = now })
   active_now now holds =
       ap (λ (x : SuperParts). active_of x other) (sym super_same) ∙ holds.reads ∙ ap (λ (x : Contents RecordParts). read_as (contents_as x.base now)) held_same
 
-  pub stands_still : Torn (area_start journal.area) AREA_SIZE file other → Holds (grammar journal.pages) journal.area journal.base records other → StandsFor other pages s
+  pub stands_still : Torn (area_start journal.area) AREA_SIZE file other → AreaHolds (grammar journal.pages) journal.area journal.base records other → StandsFor other pages s
   stands_still torn holds =
       let d = torn_area journal.area file other small torn in
       stands_as file other pages s h (record {
@@ -91,7 +91,7 @@ module _ (file other : List ℕ) (pages : ℕ) (s : State) (journal : JournalPar
       })
 
   pub stands_with : (t : State) (new : RecordParts) → IsAfterRecord pages new s t → Torn (area_start journal.area) AREA_SIZE file other
-      → Holds (grammar journal.pages) journal.area journal.base (records ++ new ∷ []) other → StandsFor other pages t
+      → AreaHolds (grammar journal.pages) journal.area journal.base (records ++ new ∷ []) other → StandsFor other pages t
   stands_with t new after torn holds =
       let d = torn_area journal.area file other small torn in
       let more : Opens other (with_record opens.super.pages new h.content) =

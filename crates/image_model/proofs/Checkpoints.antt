@@ -5,7 +5,7 @@ use Rattle.std.proofs.lemmas.List.{get_or-take, get_or_at, length-take-le, appen
 use Rattle.disk_trait.specs.Disk.{written, Torn}
 use Rattle.disk_trait.specs.NoteLaws.{torn_written}
 use Rattle.page_image.specs.Pages.{PageParts}
-use Rattle.redo_journal.specs.Area.{Holds, area_start, read_area}
+use Rattle.redo_journal.specs.Area.{AreaHolds, area_start, read_area}
 use Rattle.redo_journal.specs.declared.sizes.TheConstants.{AREA_SIZE}
 use Rattle.redo_journal.specs.Homes.{DiffersInHomes, AreSentHome, home_start, home_of}
 use Rattle.redo_journal.specs.Journals.{JournalParts, HoldsFor}
@@ -131,7 +131,7 @@ module _ (journal : JournalParts) (records : List RecordParts) (first : List ℕ
       is_ready : IsReadyToSwitch (super_for journal) s.commits ready
       is_ready = record {
         head = beside.active;
-        other = subst (λ (n : ℕ). Holds (grammar journal.pages) (1 - journal.area) n [] ready) commits_are empty.holds;
+        other = subst (λ (n : ℕ). AreaHolds (grammar journal.pages) (1 - journal.area) n [] ready) commits_are empty.holds;
         homes = λ page p lt final. final_home page p final;
       }
 

@@ -17,7 +17,7 @@ use Rattle.store_model.proofs.ShownWorlds.{shows_root, shows_whole}
 use Rattle.image_model.specs.Super.{is_page_count}
 use Rattle.image_model.specs.Opening.{page_slots}
 use Rattle.image_model.specs.Stores.{ArePages, IsRooted, IsStore}
-use Rattle.image_model.specs.Stands.{opened}
+use Rattle.image_model.specs.Stands.{opened_world}
 use Rattle.image_model.specs.Files.{fresh_page, fresh_pages}
 use Rattle.image_model.proofs.States.{opened_is}
 
@@ -70,7 +70,7 @@ fresh_rooted count some =
     subst IsRooted (sym (fresh_shown count)) (record { root = shows_root (fresh_world count) lawful.orderly; whole = shows_whole (fresh_world count) lawful })
 
 -- a file that holds them opens to the fresh world
-pub fresh_opened : (file : List ℕ) (count : ℕ) → 0 < count → IsStore file (record { commits = 0; pages = fresh_pages count }) → opened file ≡ fresh_world count
+pub fresh_opened : (file : List ℕ) (count : ℕ) → 0 < count → IsStore file (record { commits = 0; pages = fresh_pages count }) → opened_world file ≡ fresh_world count
 fresh_opened file count some h =
     opened_is file (record { commits = 0; pages = fresh_pages count }) h
     ∙ ap (λ (images : List (List SlotParts)). world_of 0 images) (fresh_shown count) ∙ fresh_opens count some

@@ -12,7 +12,7 @@ use Rattle.object_graph.specs.declared.limits.TheConstants.{MOST_PAGES}
 use Rattle.object_graph.specs.declared.names.TheConstants.{OBJECT_FIELDS}
 use Rattle.object_graph.specs.declared.sizes.TheConstants.{SLOTS_PER_PAGE}
 use Rattle.page_image.specs.Slots.{IsSlot}
-use Rattle.page_image.specs.Fields.{page_at, page_of, slot_of, slot_piece, fields_of_slot, first_wrong, is_used, number_at}
+use Rattle.page_image.specs.Fields.{page_at, page_of, slot_of, slot_piece, fields_of_slot, first_wrong, says_in_use, number_in_bytes}
 use Rattle.page_image.proofs.Right.{slot_right, slot_fits, header_number}
 use Rattle.page_image.proofs.Tables.{page_at-read, right_at, slot_right-back}
 use Rattle.redo_journal.specs.Walk.{Grammar, walk}
@@ -29,7 +29,7 @@ use Rattle.store_model.proofs.Flats.{length-map_below}
 use Rattle.store_model.specs.FromImages as store
 use Rattle.store_model.specs.FromImages.{AreImages, slot_in}
 use Rattle.store_model.specs.Images.{no_slot}
-use Rattle.image_model.specs.Opening.{StoreParts, page_slots, images_of, each_of, final_at}
+use Rattle.image_model.specs.Opening.{StoreParts, page_slots, store_images, each_of, final_at}
 use Rattle.image_model.proofs.Openings.{ok, Opens}
 use Rattle.image_model.proofs.RecordSteps.{unplace, final_has}
 use Rattle.redo_journal.specs.declared.sizes.TheConstants.{IMAGE_SIZE}
@@ -45,7 +45,7 @@ pub record IsReadPage (p : PageParts) : Type 0 where
 slot_read : (bytes : List ℕ) (slot : ℕ) → slot < SLOTS_PER_PAGE → first_wrong (flat_map (fields_of_slot bytes) (below SLOTS_PER_PAGE)) ≡ None → IsSlot (slot_of (slot_piece bytes slot))
 slot_read bytes slot low right =
     let r = slot_right (slot_piece bytes slot) (slot_right-back bytes slot (right_at (fields_of_slot bytes) SLOTS_PER_PAGE slot low right)) in
-    slot_fits (is_used (slot_piece bytes slot)) (number_at w16 (slot_piece bytes slot) 2) (number_at w64 (slot_piece bytes slot) 8) _ _ _ _ r.generation r.number r.references.first r.references.second r.references.third r.references.fourth
+    slot_fits (says_in_use (slot_piece bytes slot)) (number_in_bytes w16 (slot_piece bytes slot) 2) (number_in_bytes w64 (slot_piece bytes slot) 8) _ _ _ _ r.generation r.number r.references.first r.references.second r.references.third r.references.fourth
 
 pub page_read : (bytes : List ℕ) (p : PageParts) → page_at bytes ≡ Ok p → IsReadPage p
 page_read bytes p e =
@@ -143,7 +143,7 @@ opened_pages file held h =
 
 -- ---- images that a store may have
 
-as_slot : (s : SlotParts) → IsSlot s → store.IsSlot OBJECT_FIELDS s
+as_slot : (s : SlotParts) → IsSlot s → store.IsSlotWith OBJECT_FIELDS s
 as_slot s h = record {
   named = h.used;
   number = λ e. (h.free e).0;
@@ -165,7 +165,7 @@ are_images pages h = record {
   slots = λ page slot lt low.
       let p = page_is page lt in
       let within : slot < length (get_or pages page no_page).slots = omega (arith, low, p.count) in
-      subst (store.IsSlot OBJECT_FIELDS) (sym (ap (λ (image : List SlotParts). get_or image slot no_slot) (slots_are page lt)))
+      subst (store.IsSlotWith OBJECT_FIELDS) (sym (ap (λ (image : List SlotParts). get_or image slot no_slot) (slots_are page lt)))
       (as_slot (get_or (get_or pages page no_page).slots slot no_slot) (at_place IsSlot no_slot (get_or pages page no_page).slots slot p.slots within));
 }
   where
@@ -178,5 +178,5 @@ are_images pages h = record {
     slots_are : (page : ℕ) → page < length (page_slots pages) → get_or (page_slots pages) page [] ≡ (get_or pages page no_page).slots
     slots_are page lt = get_or-map (λ (p : PageParts). p.slots) pages page no_page [] (inside page lt)
 
-pub opened_images : (file : List ℕ) (held : StoreParts) → Opens file held → AreImages (images_of held)
+pub opened_images : (file : List ℕ) (held : StoreParts) → Opens file held → AreImages (store_images held)
 opened_images file held h = are_images held.pages (opened_pages file held h)

@@ -5,7 +5,7 @@ use Rattle.object_graph.specs.Slots.{below}
 use Rattle.page_image.specs.Pages.{PageParts, empty_page, with_slot}
 use Rattle.page_image.specs.Slots.{taken}
 use Rattle.page_image.specs.Spelling.{page_bytes}
-use Rattle.redo_journal.specs.Area.{Holds}
+use Rattle.redo_journal.specs.Area.{AreaHolds}
 use Rattle.redo_journal.specs.declared.sizes.TheConstants.{AREA_SIZE}
 use Rattle.redo_journal.specs.Homes.{home_of, store_size}
 use Rattle.redo_journal.specs.Record.{grammar}
@@ -19,7 +19,7 @@ use Rattle.image_model.specs.Opening.{final_at, counted_of, home_at}
 -- active one
 pub record IsReadyToSwitch (super : SuperParts) (commits : ℕ) (file : List ℕ) : Type 0 where
   pub head : super_of file ≡ Some super
-  pub other : Holds (grammar super.pages) (1 - super.area) commits [] file
+  pub other : AreaHolds (grammar super.pages) (1 - super.area) commits [] file
   pub homes : (page : ℕ) (p : PageParts) → page < super.pages → final_at (counted_of file) file page ≡ Ok p
       → home_at page (home_of page file) ≡ Ok p
 

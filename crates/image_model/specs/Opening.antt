@@ -21,8 +21,8 @@ pub record StoreParts : Type 0 where
 abbrev pub page_slots : List PageParts → List (List SlotParts)
 page_slots pages = map (λ p. p.slots) pages
 
-abbrev pub images_of : StoreParts → List (List SlotParts)
-images_of store = page_slots store.pages
+abbrev pub store_images : StoreParts → List (List SlotParts)
+store_images store = page_slots store.pages
 
 -- why a file is no store
 pub data Fault : Type 0 where

@@ -4,7 +4,7 @@ use Rattle.std.specs.List.{AllByRecursion}
 use Rattle.object_graph.specs.SlotParts.{SlotParts}
 use Rattle.page_image.specs.Pages.{PageParts}
 use Rattle.redo_journal.specs.Record.{RecordParts, commits_of}
-use Rattle.redo_journal.specs.Replays.{last_image, is_among}
+use Rattle.redo_journal.specs.Replays.{last_image, has_image}
 use Rattle.redo_journal.specs.declared.kind.Kind.TheVariants.{Commit, Sweep}
 use Rattle.store_model.specs.Worlds.{World, Transaction, view}
 use Rattle.store_model.specs.Causes.{has_page}
@@ -32,7 +32,7 @@ pub record IsAfterRecord (pages : ℕ) (new : RecordParts) (s t : State) : Type 
 -- the images are those of the pages that the transaction wrote, as its view has them
 pub record AreOfCommit (w : World) (t : Transaction) (images : List PageParts) : Type 0 where
   pub shows : AllByRecursion (λ p. p.slots ≡ shown_in w (view w t) p.number) images
-  pub all : (page : ℕ) → is_among images page ≡ false → has_page t.pages_written page ≡ false
+  pub all : (page : ℕ) → has_image images page ≡ false → has_page t.pages_written page ≡ false
 
 -- a commit's record, and a sweep's
 abbrev pub commit_record : List PageParts → RecordParts

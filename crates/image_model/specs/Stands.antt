@@ -11,7 +11,7 @@ use Rattle.store_model.specs.States.{State, shown_by, IsStateOf}
 use Rattle.redo_journal.specs.Journals.{JournalParts, HoldsFor}
 use Rattle.redo_journal.specs.Record.{RecordParts}
 use Rattle.image_model.specs.Super.{super_of}
-use Rattle.image_model.specs.Opening.{StoreParts, images_of, open_of}
+use Rattle.image_model.specs.Opening.{StoreParts, store_images, open_of}
 use Rattle.image_model.specs.Stores.{IsRooted, IsStore}
 
 -- the images that a state shows, page 0 first
@@ -31,7 +31,7 @@ pub record IsState (pages : ℕ) (s : State) : Type 0 where
 pub record StandsFor (file : List ℕ) (pages : ℕ) (s : State) : Type 0 where
   pub content : StoreParts
   pub store : IsStore file content
-  pub shows : images_of content ≡ all_shown_by pages s
+  pub shows : store_images content ≡ all_shown_by pages s
   pub commits : content.commits ≡ s.commits
   pub state : IsState pages s
 
@@ -51,11 +51,11 @@ store_or_none (Ok store) = store
 store_or_none (Err fault) = nothing_held
 
 abbrev pub world_held : StoreParts → World
-world_held store = world_of store.commits (images_of store)
+world_held store = world_of store.commits (store_images store)
 
 -- where it is a store
-abbrev pub opened : List ℕ → World
-opened file = world_held (store_or_none (open_of file))
+abbrev pub opened_world : List ℕ → World
+opened_world file = world_held (store_or_none (open_of file))
 
 -- ---- the journal of a store
 

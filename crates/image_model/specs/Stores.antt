@@ -11,7 +11,7 @@ use Rattle.redo_journal.specs.Homes.{home_start}
 use Rattle.redo_journal.specs.Record.{numbers_of}
 use Rattle.store_model.specs.FromImages.{slot_in, objects_in_use, is_name_in_use, has_root, IsWhole}
 use Rattle.image_model.specs.Super.{is_page_count}
-use Rattle.image_model.specs.Opening.{StoreParts, Fault, damaged, images_of, open_of}
+use Rattle.image_model.specs.Opening.{StoreParts, Fault, damaged, store_images, open_of}
 
 -- ---- a store
 
@@ -23,7 +23,7 @@ pub record IsRooted (images : List (List SlotParts)) : Type 0 where
 -- the file holds this, and all is right with it
 pub record IsStore (file : List ℕ) (store : StoreParts) : Type 0 where
   pub opens : open_of file ≡ Ok store
-  pub rooted : IsRooted (images_of store)
+  pub rooted : IsRooted (store_images store)
 
 -- the pages of a store, page 0 first
 pub record ArePages (pages : List PageParts) : Type 0 where
@@ -75,7 +75,7 @@ pub record HoldsFault (file : List ℕ) (fault : Fault) : Type 0 where
   pub store : StoreParts
   pub opens : open_of file ≡ Ok store
   pub at : ℕ
-  pub there : HasFaultAt (images_of store) at
+  pub there : HasFaultAt (store_images store) at
   pub is : fault ≡ damaged at
 
 -- the first thing that is wrong with a file

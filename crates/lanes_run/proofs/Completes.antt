@@ -4,7 +4,7 @@ use Rattle.std.specs.Prelude.{IfSome}
 use Rattle.disk_trait.specs.declared.disk.Disk.{Ghosts as DiskOf}
 use Rattle.disk_trait.specs.Causes.{Rose}
 use Rattle.image_model.specs.Opening.{not_a_store, damaged}
-use Rattle.image_model.specs.Stands.{opened}
+use Rattle.image_model.specs.Stands.{opened_world}
 use Rattle.image_model.specs.Stores.{HasFault}
 use Rattle.script_lang.specs.declared.line.LaneLine.{LaneLine}
 use Rattle.script_lang.specs.Script.{lines_of, SaysInLane}
@@ -66,19 +66,19 @@ not_too_much pages script taken left said s t g =
 
 -- ---- the whole
 
-opened_pages : (content : Option (List ℕ)) (file : List ℕ) (w : World) → content ≡ Some file → IfSome content (λ f. OpensTo f w) → (opened file).pages ≡ w.pages
+opened_pages : (content : Option (List ℕ)) (file : List ℕ) (w : World) → content ≡ Some file → IfSome content (λ f. OpensTo f w) → (opened_world file).pages ≡ w.pages
 opened_pages content file w is opens = ap (λ (v : World). v.pages) (sym (subst (λ (o : Option (List ℕ)). IfSome o (λ f. OpensTo f w)) is opens).is)
 
 module _ {D : Type 0} (disks : DiskOf D) where
   right_pages : (status : Status) (disk now : D) (a b h i : Option (List ℕ)) (script file : List ℕ) → (r : RanLanes disks status disk now a b h i) → disks.content disk ≡ Some file
-      → IsLaneScript (opened file).pages script → IsLaneScript r.world.pages script
+      → IsLaneScript (opened_world file).pages script → IsLaneScript r.world.pages script
   right_pages status disk now a b h i script file r kept s = subst (λ (pages : ℕ). IsLaneScript pages script) (opened_pages (disks.content disk) file r.world kept r.opens) s
 
   pub completes : (status : Status) (disk now : D) (a b h i : Option (List ℕ)) (N C : Type 0) (script file : List ℕ) (source_before source_now sink_before sink_now : ℕ)
       → LanesBy status (RanLanes disks status disk now a b h i) N C
       → (status ≡ ReadFault → Rose source_before source_now) → (status ≡ WriteFault → Rose sink_before sink_now) → (status ≡ DiskFault → Rose (disks.fault_count disk) (disks.fault_count now))
       → (status ≡ NotAStore → IfSome (disks.content disk) (λ f. HasFault f not_a_store)) → ((at : ℕ) → status ≡ Damaged at → IfSome (disks.content disk) (λ f. HasFault f (damaged at)))
-      → a ≡ Some script → disks.content disk ≡ Some file → HasNoFault file → IsLaneScript (opened file).pages script
+      → a ≡ Some script → disks.content disk ≡ Some file → HasNoFault file → IsLaneScript (opened_world file).pages script
       → (Rose source_before source_now → ⊥) → (Rose sink_before sink_now → ⊥) → (Rose (disks.fault_count disk) (disks.fault_count now) → ⊥) → IsDoneOrMemory status
   completes Done disk now a b h i N C script file s t k l ran read write fault none bad told kept sound is_script nr nw nf = inl refl
   completes Memory disk now a b h i N C script file s t k l ran read write fault none bad told kept sound is_script nr nw nf = inr refl

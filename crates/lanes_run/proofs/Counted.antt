@@ -12,9 +12,9 @@ use Rattle.store_lanes.specs.LaneScripts.{SayInLanes}
 use Rattle.store_run.specs.declared.status.Status.{Status}
 use Rattle.store_run.specs.declared.status.Status.TheVariants.{BadLine}
 use Rattle.store_run.proofs.WholeLines.{one_whole, none_whole, whole_join, lines_are, whole_are, unended_line}
-use Rattle.lanes_run.specs.Asked.{entries_of, entries_asked}
+use Rattle.lanes_run.specs.Asked.{line_entries, entries_asked}
 use Rattle.lanes_run.specs.Judged.{IsBadInLanes}
-use Rattle.lanes_run.specs.Judging.{LineCounted, LineJudged, FrontCounted, FrontBad, FrontStopped, LastCounted, LastJudged}
+use Rattle.lanes_run.specs.Judging.{LineCounted, LineJudged, FrontCounted, LanesFrontBad, LanesFrontStopped, LastCounted, LastJudged}
 use Rattle.lanes_run.specs.declared.judging.Tally.{Tally}
 
 -- ---- what lines say, and ask for
@@ -36,11 +36,11 @@ pub asked_join : (pages : ℕ) (said more : List LaneLine) → entries_asked pag
 asked_join pages [] more = omega arith
 asked_join pages (s ∷ said) more = let h = asked_join pages said more in omega (arith, h)
 
-pub asked_one : (pages : ℕ) (s : LaneLine) → entries_asked pages (s ∷ []) ≡ entries_of pages s.line
+pub asked_one : (pages : ℕ) (s : LaneLine) → entries_asked pages (s ∷ []) ≡ line_entries pages s.line
 asked_one pages s = omega arith
 
 -- no line asks for more than a collection over the largest count of pages
-pub line_bound : (pages : ℕ) (line : Line) → pages < 2 ^ 32 → entries_of pages line ≤ 8589934594
+pub line_bound : (pages : ℕ) (line : Line) → pages < 2 ^ 32 → line_entries pages line ≤ 8589934594
 line_bound pages Note few = omega arith
 line_bound pages (One call) few = omega arith
 line_bound pages (Collect workers) few = let two : 2 ^ 32 ≡ 4294967296 = refl in omega (arith, few, two)
@@ -91,7 +91,7 @@ within : (bytes front rest bad after : List ℕ) → bytes ≡ front ++ rest →
 within bytes front rest bad after whole split = omega (arith, ap length whole, length-append front rest, ap length split, length-append bad after)
 
 front_bad : (pages : ℕ) (bytes rest bad after : List ℕ) (before mid : Tally) (line column : ℕ) → FrontCounted pages bytes before mid rest → SplitsAt 10 rest bad after
-    → IsBadInLanes bad column → line ≡ mid.lines + 1 → FrontBad bytes before line column
+    → IsBadInLanes bad column → line ≡ mid.lines + 1 → LanesFrontBad bytes before line column
 front_bad pages bytes rest bad after before mid line column x s is_bad line_is =
     let are = whole_join x.front (bad ++ 10 ∷ []) x.lines (bad ∷ []) x.are (one_whole bad s.without) in
     record {
@@ -110,13 +110,13 @@ front_bad pages bytes rest bad after before mid line column x s is_bad line_is =
     }
 
 pub front_stops : (pages : ℕ) (bytes rest line after : List ℕ) (before mid : Tally) (status : Status) → FrontCounted pages bytes before mid rest → SplitsAt 10 rest line after
-    → LineJudged pages line mid (Err status) → FrontStopped bytes before status
+    → LineJudged pages line mid (Err status) → LanesFrontStopped bytes before status
 front_stops pages bytes rest line after before mid (BadLine l column) x s y = front_bad pages bytes rest line after before mid l column x s y.0 y.1
 front_stops pages bytes rest line after before mid _ x s y = absurd y
 
 -- what is left is too long for a line already
 pub front_too_long : (pages : ℕ) (bytes rest : List ℕ) (before now : Tally) → FrontCounted pages bytes before now rest → Without 10 rest → LINE_LIMIT < length rest
-    → FrontBad bytes before (now.lines + 1) (LINE_LIMIT + 1)
+    → LanesFrontBad bytes before (now.lines + 1) (LINE_LIMIT + 1)
 front_too_long pages bytes rest before now x without long = record {
   front = bytes;
   rest = [];
@@ -142,7 +142,7 @@ unread_bad bytes r e is only at = record {
   wrong_at = at;
 }
 
-pub line_counted : (pages : ℕ) (line : List ℕ) (before : Tally) (s : LaneLine) (count : ℕ) → SaysInLane line s.lane s.line → count ≡ entries_of pages s.line
+pub line_counted : (pages : ℕ) (line : List ℕ) (before : Tally) (s : LaneLine) (count : ℕ) → SaysInLane line s.lane s.line → count ≡ line_entries pages s.line
     → LineCounted pages line before (record { lines = before.lines + 1; entries = before.entries + count })
 line_counted pages line before s count says is = record { said = s; says = says; lines_is = refl; entries_is = ap (λ n. before.entries + n) is }
 

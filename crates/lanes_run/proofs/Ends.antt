@@ -34,7 +34,7 @@ use Rattle.store_run.specs.declared.status.Status.TheVariants.{Done, BadLine, To
 use Rattle.lanes_run.specs.Ended.{ended_by, is_whole, IsLanesEnd, LanesEnded, StoreLanes}
 use Rattle.lanes_run.specs.Judged.{AreRight}
 use Rattle.lanes_run.specs.Judging.{ScriptRight, ScriptRefused}
-use Rattle.lanes_run.specs.RanLanes.{LanesFollow, DidBy, WrittenBy}
+use Rattle.lanes_run.specs.RanLanes.{LanesFollow, DidBy, ChronicleWrittenBy}
 
 never_true : {A : Type 0} → IsTrue false → A
 never_true {A} t = absurd (let clash : false ≡ true = t in let n : ⊥ = cc in n)
@@ -164,7 +164,7 @@ module _ {D : Type 0} (disks : DiskOf D) where
   }
 
   refused_with : (status : Status) (old : Seen D) (a b h : Option (List ℕ)) (s : ScriptRefused status old.world.pages a b) → IsLawful old.world → IsKept disks old old []
-      → DidBy status (Knows old []) old.world s.taken b s.said [] → WrittenBy status h h [] → EndsBy status old.world → StoreLanes disks status old old a b h h
+      → DidBy status (Knows old []) old.world s.taken b s.said [] → ChronicleWrittenBy status h h [] → EndsBy status old.world → StoreLanes disks status old old a b h h
   refused_with status old a b h s lawful kept did written ends =
       record { lawful = lawful; chronicle = []; kept = kept; taken = s.taken; said = s.said; consumed = s.consumed; did = did; written = written; ends = ends }
 

@@ -18,7 +18,7 @@ use Rattle.store_run.specs.declared.status.Status.TheVariants.{BadLine, TooLong,
 use Rattle.store_run.proofs.WholeLines.{none_whole, whole_join, lines_are, whole_are, little_left}
 use Rattle.lanes_run.specs.Asked.{entries_asked}
 use Rattle.lanes_run.specs.Judged.{AreGoodSoFar, AreWhole}
-use Rattle.lanes_run.specs.Judging.{FrontBad, FrontStopped, PieceCounted, LastCounted, LastBad, EndJudged, ScriptRefused, BytesRead}
+use Rattle.lanes_run.specs.Judging.{LanesFrontBad, LanesFrontStopped, PieceCounted, LastCounted, LastBad, EndJudged, ScriptRefused, BytesRead}
 use Rattle.lanes_run.specs.declared.judging.Tally.{Tally}
 use Rattle.lanes_run.proofs.Counted.{say_join, asked_join, lines_bound}
 
@@ -184,7 +184,7 @@ not_none : (good : List (List ℕ)) (bad : List ℕ) → ◌≡◌ {A = List (Li
 not_none [] bad e = absurd cc
 not_none (line ∷ good) bad e = absurd cc
 
-piece_bad : (pages : ℕ) (a b : Option (List ℕ)) (bytes ahead : List ℕ) (taken : ℕ) (tally : Tally) (line column : ℕ) → Fed pages a b bytes ahead taken tally → FrontBad ahead tally line column
+piece_bad : (pages : ℕ) (a b : Option (List ℕ)) (bytes ahead : List ℕ) (taken : ℕ) (tally : Tally) (line column : ℕ) → Fed pages a b bytes ahead taken tally → LanesFrontBad ahead tally line column
     → ScriptRefused (BadLine line column) pages a b
 piece_bad pages a b bytes ahead taken tally line column x p =
     let soon : (whole_lines p.front ≡ [] → ⊥) → length p.rest < PIECE_LIMIT =
@@ -212,7 +212,7 @@ piece_bad pages a b bytes ahead taken tally line column x p =
       };
     }
 
-pub piece_stops : (pages : ℕ) (a b : Option (List ℕ)) (bytes ahead : List ℕ) (taken : ℕ) (tally : Tally) (status : Status) → Fed pages a b bytes ahead taken tally → FrontStopped ahead tally status
+pub piece_stops : (pages : ℕ) (a b : Option (List ℕ)) (bytes ahead : List ℕ) (taken : ℕ) (tally : Tally) (status : Status) → Fed pages a b bytes ahead taken tally → LanesFrontStopped ahead tally status
     → ScriptRefused status pages a b
 piece_stops pages a b bytes ahead taken tally (BadLine line column) x p = piece_bad pages a b bytes ahead taken tally line column x p
 piece_stops pages a b bytes ahead taken tally _ x p = absurd p

@@ -13,7 +13,7 @@ use Rattle.store_lanes.specs.LaneScripts.{SayInLanes}
 use Rattle.store_run.specs.Ran.{EndsBy}
 use Rattle.store_run.specs.declared.status.Status.{Status}
 use Rattle.store_run.specs.declared.status.Status.TheVariants.{Done, WriteFault, DiskFault, Memory}
-use Rattle.lanes_run.specs.RanLanes.{LanesFollow, DidBy, WrittenBy}
+use Rattle.lanes_run.specs.RanLanes.{LanesFollow, DidBy, ChronicleWrittenBy}
 
 -- the status of lanes whose chronicle was written, by whether all came to their ends and whether the store is broken
 abbrev pub ended_by : Bool → Option ℕ → Status
@@ -45,7 +45,7 @@ module _ {D : Type 0} (disks : DiskOf D) where
     pub follow : (said : List LaneLine) → SayInLanes lines said
         → LanesFollow (IsKnown (disks.content old.disk) (history chronicle)) old.world (is_whole status) said
         (history chronicle)
-    pub written : WrittenBy status held_before held_now (history chronicle)
+    pub written : ChronicleWrittenBy status held_before held_now (history chronicle)
     pub ends : EndsBy status new.world
 
   -- a script was read and run, or refused, from the core just opened to how it stands now
@@ -59,5 +59,5 @@ module _ {D : Type 0} (disks : DiskOf D) where
     pub consumed : Consumes left_before left_now taken
     pub did : DidBy status (IsKnown (disks.content old.disk) (history chronicle)) old.world taken left_now said
         (history chronicle)
-    pub written : WrittenBy status held_before held_now (history chronicle)
+    pub written : ChronicleWrittenBy status held_before held_now (history chronicle)
     pub ends : EndsBy status new.world

@@ -10,7 +10,7 @@ use Rattle.store_run.specs.Lines.{AreWholeLines}
 use Rattle.store_run.specs.Pieces.{whole_lines}
 use Rattle.store_run.specs.declared.status.Status.{Status}
 use Rattle.store_run.specs.declared.status.Status.TheVariants.{BadLine, TooLong}
-use Rattle.lanes_run.specs.Asked.{entries_of, entries_asked}
+use Rattle.lanes_run.specs.Asked.{line_entries, entries_asked}
 use Rattle.lanes_run.specs.Judged.{IsBadInLanes, AreRight, RefusedBy}
 use Rattle.lanes_run.specs.declared.judging.TheConstants.{MOST_ENTRIES}
 use Rattle.lanes_run.specs.declared.judging.Tally.{Tally}
@@ -23,7 +23,7 @@ pub record LineCounted (pages : ℕ) (bytes : List ℕ) (before now : Tally) : T
   pub said : LaneLine
   pub says : SaysInLane bytes said.lane said.line
   pub lines_is : now.lines ≡ before.lines + 1
-  pub entries_is : now.entries ≡ before.entries + entries_of pages said.line
+  pub entries_is : now.entries ≡ before.entries + line_entries pages said.line
 
 abbrev pub LineJudged : ℕ → List ℕ → Tally → Result Tally Status → Type 0
 LineJudged pages bytes before (Ok now) = LineCounted pages bytes before now
@@ -44,7 +44,7 @@ pub record FrontCounted (pages : ℕ) (bytes : List ℕ) (before now : Tally) (r
   pub entries_is : now.entries ≡ before.entries + entries_asked pages said
 
 -- a line among them is bad: a whole one, or one that is too long already
-pub record FrontBad (bytes : List ℕ) (before : Tally) (line column : ℕ) : Type 0 where
+pub record LanesFrontBad (bytes : List ℕ) (before : Tally) (line column : ℕ) : Type 0 where
   pub front : List ℕ
   pub rest : List ℕ
   pub good : List (List ℕ)
@@ -58,15 +58,15 @@ pub record FrontBad (bytes : List ℕ) (before : Tally) (line column : ℕ) : Ty
   pub is_bad : IsBadInLanes bad column
   pub line_is : line ≡ before.lines + length good + 1
 
-abbrev pub FrontStopped : List ℕ → Tally → Status → Type 0
-FrontStopped bytes before (BadLine line column) = FrontBad bytes before line column
-FrontStopped bytes before status = ⊥
+abbrev pub LanesFrontStopped : List ℕ → Tally → Status → Type 0
+LanesFrontStopped bytes before (BadLine line column) = LanesFrontBad bytes before line column
+LanesFrontStopped bytes before status = ⊥
 
 -- the whole lines of some bytes were judged, and so many bytes are left
 abbrev pub FrontJudged : ℕ → List ℕ → Tally → Result (Tally × ℕ) Status → Type 0
 FrontJudged pages bytes before (Ok end) = (rest : List ℕ) × FrontCounted pages bytes before end.0 rest
     × Without 10 rest × (length rest ≡ end.1)
-FrontJudged pages bytes before (Err status) = FrontStopped bytes before status
+FrontJudged pages bytes before (Err status) = LanesFrontStopped bytes before status
 
 -- the same of a piece: what is left is an unended line that isn't too long
 pub record PieceCounted (pages : ℕ) (bytes : List ℕ) (before now : Tally) (rest : List ℕ) : Type 0 where
@@ -76,7 +76,7 @@ pub record PieceCounted (pages : ℕ) (bytes : List ℕ) (before now : Tally) (r
 
 abbrev pub PieceJudged : ℕ → List ℕ → Tally → List ℕ → Result Tally Status → Type 0
 PieceJudged pages bytes before rest (Ok now) = PieceCounted pages bytes before now rest
-PieceJudged pages bytes before rest (Err status) = FrontStopped bytes before status
+PieceJudged pages bytes before rest (Err status) = LanesFrontStopped bytes before status
 
 -- ---- the end of input
 

@@ -56,9 +56,9 @@ DidBy status known w taken left said history = RefusedBy status w.pages taken le
 -- ---- what was written
 
 -- the text of the chronicle, or, where writing failed, not all of it
-abbrev pub WrittenBy : Status → Option (List ℕ) → Option (List ℕ) → List Event → Type 0
-WrittenBy WriteFault before now history = AppendsFront before now (chronicle_text history)
-WrittenBy status before now history = Appends before now (chronicle_text history)
+abbrev pub ChronicleWrittenBy : Status → Option (List ℕ) → Option (List ℕ) → List Event → Type 0
+ChronicleWrittenBy WriteFault before now history = AppendsFront before now (chronicle_text history)
+ChronicleWrittenBy status before now history = Appends before now (chronicle_text history)
 
 -- ---- the whole
 
@@ -79,7 +79,7 @@ pub record RanLanes {D : Type 0} (disks : DiskOf D) (status : Status) (old new :
   pub collected : IsKnown (disks.content old) history → IsCollected world history
   pub consumed : Consumes left_before left_now taken
   pub did : DidBy status (IsKnown (disks.content old) history) world taken left_now said history
-  pub written : WrittenBy status held_before held_now history
+  pub written : ChronicleWrittenBy status held_before held_now history
   pub ends : EndsBy status last
   pub crashes : IfSome (disks.content old) (λ _. LeavesHistory disks old new world history)
   pub faults : FaultsAscend (disks.fault_count old) (disks.fault_count new) history

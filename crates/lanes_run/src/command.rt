@@ -5,7 +5,7 @@ ghost use Rattle.disk_trait.specs.DiskFacts.{KeepsDisk};
 ghost use Rattle.cut_core.specs.Starts.{IsJustOpened};
 ghost use Rattle.image_model.specs.Opening.{StoreParts, not_a_store, damaged};
 ghost use Rattle.image_model.specs.Stores.{IsStore, HasFault};
-ghost use Rattle.image_model.specs.Stands.{opened};
+ghost use Rattle.image_model.specs.Stands.{opened_world};
 ghost use Rattle.store_run.specs.Complete.{IsDoneOrMemory};
 ghost use Rattle.store_run.specs.Ran.{NotRun};
 ghost use Rattle.lanes_run.specs.Asked.{AreLanes};
@@ -59,7 +59,7 @@ pub fn top_lanes<R: Threads + Wait + Sync, D: Disk + Send, S: Source, K: Sink, G
 
     // Where nothing fails, a script in the grammar is run to its end.
     ensures complete { (script file : List ℕ) (store : StoreParts) → AreLanes (map string_bytes words.now) → S.left source.old ≡ Some script → D.content disk ≡ Some file → IsStore file store
-        → IsLaneScript (opened file).pages script → ¬ Rose (S.faults source.old) (S.faults source.new) → ¬ Rose (K.faults sink.old) (K.faults sink.new)
+        → IsLaneScript (opened_world file).pages script → ¬ Rose (S.faults source.old) (S.faults source.new) → ¬ Rose (K.faults sink.old) (K.faults sink.new)
         → ¬ Rose (D.fault_count disk) (D.fault_count result.1) → IsDoneOrMemory result.0 }
 {
     if is_lanes(words) {

@@ -2,7 +2,7 @@
 ghost use Rattle.std.specs.Prelude.{◌≡◌, ◌+◌, ◌*◌, ◌≤◌, length, vec_len, vec_capacity};
 ghost use Rattle.script_lang.specs.Words.{Without};
 ghost use Rattle.store_run.specs.declared.pieces.TheConstants.{SCRIPT_LIMIT as script_limit};
-ghost use Rattle.lanes_run.specs.Asked.{entries_of as asked};
+ghost use Rattle.lanes_run.specs.Asked.{line_entries as asked};
 ghost use Rattle.lanes_run.specs.Judging.{LineJudged, FrontJudged, PieceJudged, LastJudged, EndJudged};
 
 use script_lang::{LINE_LIMIT, LaneLine, Line, next_line, read_lane_line};

@@ -19,11 +19,11 @@ use Rattle.store_model.proofs.Committed.{path_last}
 use Rattle.page_image.specs.Pages.{slot_at}
 use Rattle.cut_model.specs.CutPages.{cut_graph}
 use Rattle.cut_model.specs.Doomed.{AreMarks}
-use Rattle.cut_builder.specs.CutParts.{ClosedParts, starts_of, marks_of, page_of, image_of, as_page, HasOneNameEach}
+use Rattle.cut_builder.specs.CutParts.{ClosedParts, cut_starts, marks_of, page_in_cut, image_of, as_page, HasOneNameEach}
 use Rattle.mark_pool.specs.declared.place.Place.{Place}
 use Rattle.mark_pool.specs.Edges.{place, IsMarkAt, IsEdge}
 use Rattle.mark_pool.specs.Marks.{times}
-use Rattle.mark_pool.specs.Walks.{IsTarget, AreMarked, IsFollowed, AreClosedOn, IsRooted, AreClaims}
+use Rattle.mark_pool.specs.Walks.{IsTarget, AreMarked, IsFollowed, AreClosedOn, ClaimsRoot, AreClaims}
 use Rattle.mark_pool.proofs.Images.{IsAtPlace, at_place, in_graph, on_page}
 
 -- the object from which an edge goes
@@ -51,10 +51,10 @@ mark_along cut page slot to names mark edge =
     let s : there.0.name.slot ≡ from.object.name.slot = ap (λ (n : NameParts). n.slot) there.2 ∙ (mark.3 ∙ (sym edge.source_slot ∙ sym (ap (λ (n : NameParts). n.slot) from.named))) in
     let same : edge.source ≡ name = sym from.named ∙ (sym (names.once there.0 from.object there.1 from.among p s) ∙ there.2) in
     let refers_to = subst (λ n. refers graph n edge.target ≡ true) same edge.refers_to in
-    (edge.target, reached_more graph (starts_of cut) name edge.target mark.1 refers_to edge.in_use, edge.target_page, edge.target_slot)
+    (edge.target, reached_more graph (cut_starts cut) name edge.target mark.1 refers_to edge.in_use, edge.target_page, edge.target_slot)
 
 -- a reference in an image is an edge
-edge_of : (cut : ClosedParts) (page slot which : ℕ) (slots : List SlotParts) (to : NameParts) → page < length cut.pages → image_of (page_of cut.pages page) which ≡ Some slots
+edge_of : (cut : ClosedParts) (page slot which : ℕ) (slots : List SlotParts) (to : NameParts) → page < length cut.pages → image_of (page_in_cut cut.pages page) which ≡ Some slots
     → (slot_at (as_page page slots) slot).in_use ≡ true → IsTarget cut (slot_at (as_page page slots) slot).refs to → IsEdge cut page slot (place to.page to.slot)
 edge_of cut page slot which slots to within image used target =
     let graph = cut_graph cut.pages in
@@ -73,7 +73,7 @@ edge_of cut page slot which slots to within image used target =
 
 -- the targets of a marked object are marks
 pub targets_are_marked : (cut : ClosedParts) (page slot which : ℕ) (slots : List SlotParts) → HasOneNameEach cut.pages → page < length cut.pages
-    → image_of (page_of cut.pages page) which ≡ Some slots → (slot_at (as_page page slots) slot).in_use ≡ true → IsMarkAt cut page slot
+    → image_of (page_in_cut cut.pages page) which ≡ Some slots → (slot_at (as_page page slots) slot).in_use ≡ true → IsMarkAt cut page slot
     → AreMarked cut (slot_at (as_page page slots) slot).refs
 targets_are_marked cut page slot which slots names within image used mark to target =
     mark_along cut page slot (place to.page to.slot) names mark (edge_of cut page slot which slots to within image used target)
@@ -118,12 +118,12 @@ path_claimed cut claims first (n ∷ ns) last closed p h =
     } in
     path_claimed cut claims n ns last closed p.2 (closed first.page (on_page cut.pages first p.1) first.slot (place n.page n.slot) h edge)
 
-all_claimed : (cut : ClosedParts) (claims : List Place) (name : NameParts) → IsRooted cut claims → AreClosedOn cut claims (length cut.pages)
+all_claimed : (cut : ClosedParts) (claims : List Place) (name : NameParts) → ClaimsRoot cut claims → AreClosedOn cut claims (length cut.pages)
     → (mark : IsMarkAt cut name.page name.slot) → 0 < times name.page name.slot claims
 all_claimed cut claims name rooted closed mark =
     let graph = cut_graph cut.pages in
     let start : NameParts = mark.1.0 in
-    let is_root : start ≡ root_name = elim (has_name_in (starts_of cut) start mark.1.1) [ inl e ↦ e | inr z ↦ absurd z ] in
+    let is_root : start ≡ root_name = elim (has_name_in (cut_starts cut) start mark.1.1) [ inl e ↦ e | inr z ↦ absurd z ] in
     let there : has_object graph start ≡ true = path_first graph start mark.1.2.0 mark.0 mark.1.2.1 in
     let root = rooted (subst (λ n. has_object graph n ≡ true) is_root there) in
     let h = path_claimed cut claims start mark.1.2.0 mark.0 closed mark.1.2.1 (subst (λ (n : NameParts). 0 < times n.page n.slot claims) (sym is_root) root) in
@@ -139,8 +139,8 @@ no_mark_past marks page slot past =
     ap (λ n. has_slot n slot) z ∙ ap (λ b. b == 1) (bit_at-zero slot)
 
 -- so the sets are exactly the marks
-pub exact : (cut : ClosedParts) (claims : List Place) (marks : List ℕ) → length marks ≡ length cut.pages → IsRooted cut claims → AreClosedOn cut claims (length cut.pages)
-    → AreClaims cut claims marks → AreMarks (starts_of cut) cut.pages (marks_of marks)
+pub exact : (cut : ClosedParts) (claims : List Place) (marks : List ℕ) → length marks ≡ length cut.pages → ClaimsRoot cut claims → AreClosedOn cut claims (length cut.pages)
+    → AreClaims cut claims marks → AreMarks (cut_starts cut) cut.pages (marks_of marks)
 exact cut claims marks long rooted closed are = λ page slot. (
   λ h. elim (cases_lt page (length marks)) [
     | inl low ↦

@@ -16,11 +16,11 @@ use Rattle.store_model.specs.Images.{no_slot, object_in, objects_of}
 use Rattle.store_model.proofs.Cuts.{below_bound}
 use Rattle.store_model.proofs.Flats.{in_flat, in_objects_of, objects_of_in}
 use Rattle.page_image.specs.Slots.{fresh_slot}
-use Rattle.page_image.specs.Pages.{PageParts, slot_at, object_at, has_name}
+use Rattle.page_image.specs.Pages.{PageParts, slot_at, object_at, page_has_name}
 use Rattle.cut_model.specs.CutPages.{CopyParts, AfterImage, CutPage, images_of_before, images_of_copy, images_of_after, images_of, objects_on, cut_graph}
 use Rattle.cut_model.proofs.CutGraphs.{in_cut_graph}
-use Rattle.cut_builder.specs.CutParts.{page_of, before_of, image_of, as_page}
-use Rattle.mark_pool.specs.Walks.{is_in}
+use Rattle.cut_builder.specs.CutParts.{page_in_cut, before_of, image_of, as_page}
+use Rattle.mark_pool.specs.Walks.{is_used_name}
 
 -- ---- each image has its number
 
@@ -77,18 +77,18 @@ pub record IsAtPlace (pages : List CutPage) (page slot : ℕ) (o : ObjectParts) 
   pub which : ℕ
   pub below_three : which < 3
   pub slots : List SlotParts
-  pub image : image_of (page_of pages page) which ≡ Some slots
+  pub image : image_of (page_in_cut pages page) which ≡ Some slots
   pub in_use : (slot_at (as_page page slots) slot).in_use ≡ true
   pub is : o ≡ object_in page slot (slot_at (as_page page slots) slot)
 
 pub at_place : (pages : List CutPage) (o : ObjectParts) → In o (cut_graph pages) → IsAtPlace pages o.name.page o.name.slot o
 at_place pages o m =
-    let a = in_flat (λ (page : ℕ). objects_on page (page_of pages page)) (below (length pages)) o m in
+    let a = in_flat (λ (page : ℕ). objects_on page (page_in_cut pages page)) (below (length pages)) o m in
     let page : ℕ = a.0 in
-    let b = in_flat (objects_of page) (images_of (page_of pages page)) o a.2 in
+    let b = in_flat (objects_of page) (images_of (page_in_cut pages page)) o a.2 in
     let image : List SlotParts = b.0 in
     let c = in_objects_of page image o b.2 in
-    let n = number_of_image (page_of pages page) image b.1 in
+    let n = number_of_image (page_in_cut pages page) image b.1 in
     let same : get_or image c.slot no_slot ≡ get_or image c.slot fresh_slot = get_or_default image c.slot no_slot fresh_slot c.within in
     let p : page ≡ o.name.page = sym (ap (λ (x : ObjectParts). x.name.page) c.is) in
     let s : c.slot ≡ o.name.slot = sym (ap (λ (x : ObjectParts). x.name.slot) c.is) in
@@ -109,13 +109,13 @@ used_within slots slot used = elim (cases_lt slot (length slots)) [
   | inr h ↦ let z = ap (λ (s : SlotParts). s.in_use) (get_or_past slots slot fresh_slot h) in cc
 ]
 
-pub in_graph : (pages : List CutPage) (page which : ℕ) (slots : List SlotParts) (slot : ℕ) → page < length pages → image_of (page_of pages page) which ≡ Some slots
+pub in_graph : (pages : List CutPage) (page which : ℕ) (slots : List SlotParts) (slot : ℕ) → page < length pages → image_of (page_in_cut pages page) which ≡ Some slots
     → (slot_at (as_page page slots) slot).in_use ≡ true → In (object_in page slot (slot_at (as_page page slots) slot)) (cut_graph pages)
 in_graph pages page which slots slot within image used =
     let low = used_within slots slot used in
     let same : get_or slots slot no_slot ≡ get_or slots slot fresh_slot = get_or_default slots slot no_slot fresh_slot low in
     subst (λ (s : SlotParts). In (object_in page slot s) (cut_graph pages)) same
-    (in_cut_graph pages page slots (object_in page slot (get_or slots slot no_slot)) within (numbered_image (page_of pages page) which slots image)
+    (in_cut_graph pages page slots (object_in page slot (get_or slots slot no_slot)) within (numbered_image (page_in_cut pages page) which slots image)
     (objects_of_in page slots slot low (subst (λ (s : SlotParts). s.in_use ≡ true) (sym same) used)))
 
 -- a name in use is on a page of the cut
@@ -126,24 +126,24 @@ on_page pages name h =
 
 -- ---- the test whether a name is in use
 
-is_in_there : (name : NameParts) (image : Option (List SlotParts)) → is_in name image ≡ true → (slots : List SlotParts) × (image ≡ Some slots) × (has_name (as_page name.page slots) name ≡ true)
+is_in_there : (name : NameParts) (image : Option (List SlotParts)) → is_used_name name image ≡ true → (slots : List SlotParts) × (image ≡ Some slots) × (page_has_name (as_page name.page slots) name ≡ true)
 is_in_there name None h = cc
 is_in_there name (Some slots) h = (slots, refl, h)
 
-is_in_graph : (pages : List CutPage) (name : NameParts) (which : ℕ) → name.page < length pages → is_in name (image_of (page_of pages name.page) which) ≡ true → has_object (cut_graph pages) name ≡ true
+is_in_graph : (pages : List CutPage) (name : NameParts) (which : ℕ) → name.page < length pages → is_used_name name (image_of (page_in_cut pages name.page) which) ≡ true → has_object (cut_graph pages) name ≡ true
 is_in_graph pages name which within h =
-    let a = is_in_there name (image_of (page_of pages name.page) which) h in
+    let a = is_in_there name (image_of (page_in_cut pages name.page) which) h in
     let s : SlotParts = slot_at (as_page name.page a.0) name.slot in
     let b = and_parts (name.page == name.page) (s.in_use && (s.generation == name.generation)) a.2 in
     let c = and_parts s.in_use (s.generation == name.generation) b.1 in
     let m = in_graph pages name.page which a.0 name.slot within a.1 c.0 in
     subst (λ g. has_object (cut_graph pages) (name_of name.page name.slot g) ≡ true) (eqb-true s.generation name.generation c.1) (in_has_object (cut_graph pages) (object_in name.page name.slot s) m)
 
-in_which : (pages : List CutPage) (name : NameParts) (o : ObjectParts) → o.name ≡ name → (there : IsAtPlace pages name.page name.slot o) → is_in name (image_of (page_of pages name.page) there.which) ≡ true
+in_which : (pages : List CutPage) (name : NameParts) (o : ObjectParts) → o.name ≡ name → (there : IsAtPlace pages name.page name.slot o) → is_used_name name (image_of (page_in_cut pages name.page) there.which) ≡ true
 in_which pages name o named there =
     let s : SlotParts = slot_at (as_page name.page there.slots) name.slot in
     let g : s.generation ≡ name.generation = sym (ap (λ (x : ObjectParts). x.name.generation) there.is) ∙ ap (λ (n : NameParts). n.generation) named in
-    subst (λ i. is_in name i ≡ true) (sym there.image)
+    subst (λ i. is_used_name name i ≡ true) (sym there.image)
     (and_from (name.page == name.page) (s.in_use && (s.generation == name.generation)) (eq-eqb name.page name.page refl)
     (and_from s.in_use (s.generation == name.generation) there.in_use (eq-eqb s.generation name.generation g)))
 
@@ -160,10 +160,10 @@ same_test false true f g = g refl
 same_test false false f g = refl
 
 pub in_use_test : (pages : List CutPage) (name : NameParts) → name.page < length pages
-    → (is_in name (image_of (page_of pages name.page) 0) || (is_in name (image_of (page_of pages name.page) 1) || is_in name (image_of (page_of pages name.page) 2)))
+    → (is_used_name name (image_of (page_in_cut pages name.page) 0) || (is_used_name name (image_of (page_in_cut pages name.page) 1) || is_used_name name (image_of (page_in_cut pages name.page) 2)))
     ≡ has_object (cut_graph pages) name
 in_use_test pages name within =
-    let f : ℕ → Bool = λ which. is_in name (image_of (page_of pages name.page) which) in
+    let f : ℕ → Bool = λ which. is_used_name name (image_of (page_in_cut pages name.page) which) in
     same_test (f 0 || (f 1 || f 2)) (has_object (cut_graph pages) name)
     (λ h. elim (or_cases (f 0) (f 1 || f 2) h) [
       | inl a ↦ is_in_graph pages name 0 within a

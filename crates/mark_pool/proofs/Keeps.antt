@@ -14,7 +14,7 @@ use Rattle.cut_builder.specs.CutParts.{ClosedParts}
 use Rattle.mark_pool.specs.declared.place.Place.{Place}
 use Rattle.mark_pool.specs.declared.view.View.{View}
 use Rattle.mark_pool.specs.Edges.{place, IsMarkAt, IsEdge}
-use Rattle.mark_pool.specs.Marks.{view, is_here, times, bit, parts_of, Fits, Ruled, opened, added, IsAt, claimed, took, scanned, saw, saw_scanned, counted, marked_of, halved, half, joined, empty_view}
+use Rattle.mark_pool.specs.Marks.{view, is_here, times, bit, parts_of, Fits, Ruled, opened, added, IsAt, claimed, took, scanned, saw, saw_scanned, counted_once, marked_of, halved, half, joined, empty_view}
 use Rattle.object_graph.proofs.Totals.{total_set, total_snoc, total_one, total_two, total_only}
 use Rattle.mark_pool.proofs.Times.{times-append}
 use Rattle.mark_pool.proofs.Bits.{small, same_slot, elsewhere, ored, ors_here, ors_apart, ors_grow, ors_from, ors_count, same_or, times-marked_of}
@@ -249,7 +249,7 @@ module _ (cut : ClosedParts) where
     )),
   )
 
-  pub counts : (slots id : ℕ) (me : M) → Allows Rule slots id me 0 (λ n. n) (counted (step slots 0 0 0 none) me)
+  pub counts : (slots id : ℕ) (me : M) → Allows Rule slots id me 0 (λ n. n) (counted_once (step slots 0 0 0 none) me)
   counts slots id me s r _ at _ = let v : View = me.0 in
       let few : (page slot : ℕ) → (times page slot v.claims ≤ 1) × (times page slot v.takes ≤ 1) = λ page slot. (
         let a = total_one (λ (u : View). times page slot u.claims) s.views id v at in

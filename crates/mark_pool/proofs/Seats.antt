@@ -3,10 +3,10 @@ use Rattle.std.proofs.Common.{◌≡◌, List, refl, sym, ap, subst, ◌∙◌, 
 use mathlib.Core.Logic.{dite}
 use native.Mathlib.Decide.{ℕ_discrete}
 use Rattle.mark_pool.specs.Marks.{times}
-use Rattle.mark_pool.specs.Seats.{Made, Known, IsOf, with_seen, joined_seats}
+use Rattle.mark_pool.specs.Seats.{Made, Known, IsSeatOf, with_seen, joined_seats}
 use Rattle.mark_pool.specs.Jobs.{HasSame, HasMore}
 use Rattle.mark_pool.specs.declared.place.Place.{Place}
-use Rattle.mark_pool.specs.Walks.{IsTidy, IsWhole, MarksMore, Works, Looks}
+use Rattle.mark_pool.specs.Walks.{IsTidy, IsWholeSeat, MarksMore, Works, Looks}
 use Rattle.mark_pool.proofs.Times.{times-append}
 
 pub more_same : (s : Known) → MarksMore s s
@@ -34,7 +34,7 @@ seen_more s after places is = subst (MarksMore s) (sym is) (record {
   seen = λ page slot h. let t = times-append page slot places s.seen in omega (arith, t, h);
 })
 
-pub own_more : (t : Made) (a b : Known) → IsOf t a → MarksMore a b → IsOf t b
+pub own_more : (t : Made) (a b : Known) → IsSeatOf t a → MarksMore a b → IsSeatOf t b
 own_more t a b own f = (f.table ∙ own.0, f.cut ∙ own.1)
 
 pub works_same : (s : Known) → Works s s
@@ -50,7 +50,7 @@ works_then a b d f g = record {
   tidy = λ h. g.tidy (f.tidy h);
 }
 
-pub own_works : (t : Made) (a b : Known) → IsOf t a → Works a b → IsOf t b
+pub own_works : (t : Made) (a b : Known) → IsSeatOf t a → Works a b → IsSeatOf t b
 own_works t a b own f = (f.table ∙ own.0, f.cut ∙ own.1)
 
 pub looks_same : (s : Known) → Looks s s
@@ -59,7 +59,7 @@ looks_same s = record { table = refl; cut = refl; claims = refl; takes = refl; s
 pub looks_then : (a b d : Known) → Looks a b → Looks b d → Looks a d
 looks_then a b d f g = record { table = g.table ∙ f.table; cut = g.cut ∙ f.cut; claims = g.claims ∙ f.claims; takes = g.takes ∙ f.takes; scans = g.scans ∙ f.scans; parts = g.parts ∙ f.parts }
 
-pub own_looks : (t : Made) (a b : Known) → IsOf t a → Looks a b → IsOf t b
+pub own_looks : (t : Made) (a b : Known) → IsSeatOf t a → Looks a b → IsSeatOf t b
 own_looks t a b own f = (f.table ∙ own.0, f.cut ∙ own.1)
 
 pub has_then : (a b d : Known) → HasMore a b → HasMore b d → HasMore a d
@@ -96,7 +96,7 @@ pub looks_has : (a b : Known) → Looks a b → HasMore a b
 looks_has a b f = has_same a b (record { claims = f.claims; takes = f.takes; scans = f.scans })
 
 -- the whole seat stays the whole seat
-pub whole_looks : (t : Made) (a b : Known) → IsWhole t a → Looks a b → IsWhole t b
+pub whole_looks : (t : Made) (a b : Known) → IsWholeSeat t a → Looks a b → IsWholeSeat t b
 whole_looks t a b w f = record {
   own = own_looks t a b w.own f;
   parts = f.parts ∙ w.parts;
@@ -104,7 +104,7 @@ whole_looks t a b w f = record {
   tidy = (looks_has a b f).tidy w.tidy;
 }
 
-pub whole_works : (t : Made) (a b : Known) → IsWhole t a → Works a b → IsWhole t b
+pub whole_works : (t : Made) (a b : Known) → IsWholeSeat t a → Works a b → IsWholeSeat t b
 whole_works t a b w f = record {
   own = own_works t a b w.own f;
   parts = f.parts ∙ w.parts;

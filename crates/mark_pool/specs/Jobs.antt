@@ -4,18 +4,18 @@ use Rattle.std.specs.List.{All}
 use Rattle.cut_builder.specs.CutParts.{ClosedParts}
 use Rattle.mark_pool.specs.declared.work.Job.{Job}
 use Rattle.mark_pool.specs.Marks.{times}
-use Rattle.mark_pool.specs.Seats.{Made, Known, IsOf}
+use Rattle.mark_pool.specs.Seats.{Made, Known, IsSeatOf}
 use Rattle.mark_pool.specs.Walks.{IsListed, IsTidy}
 use Rattle.mark_pool.specs.declared.work.TheConstants.{MOST_QUOTA}
 
 -- a seat of the table with one part, which scanned what it took
 pub record IsBack (t : Made) (s : Known) : Type 0 where
-  pub own : IsOf t s
+  pub own : IsSeatOf t s
   pub parts : s.parts ≡ 1
   pub tidy : IsTidy s
 
 -- a job with such a seat, and places that may be scanned
-pub record IsReady (t : Made) (cut : ClosedParts) (job : Job) : Type 0 where
+pub record IsReadyJob (t : Made) (cut : ClosedParts) (job : Job) : Type 0 where
   pub seat : IsBack t job.seat
   pub places : All (IsListed cut) job.places.items
   pub quota : job.quota ≤ MOST_QUOTA

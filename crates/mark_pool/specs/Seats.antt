@@ -37,8 +37,8 @@ known table v = record {
 }
 
 -- the seat is this table's
-abbrev pub IsOf : Made → Known → Type 0
-IsOf t s = (s.table ≡ t.table) × (s.cut ≡ Some t.cut)
+abbrev pub IsSeatOf : Made → Known → Type 0
+IsSeatOf t s = (s.table ≡ t.table) × (s.cut ≡ Some t.cut)
 
 -- the first seat of a table has all parts
 abbrev pub first_seat : Made → Known

@@ -7,13 +7,13 @@ use Rattle.object_graph.specs.Names.{root_name}
 use Rattle.object_graph.specs.SlotParts.{SlotParts}
 use Rattle.object_graph.specs.Slots.{has_slot}
 use Rattle.object_graph.specs.Graphs.{is_to, has_object}
-use Rattle.page_image.specs.Pages.{slot_at, has_name}
+use Rattle.page_image.specs.Pages.{slot_at, page_has_name}
 use Rattle.cut_model.specs.CutPages.{cut_graph}
-use Rattle.cut_builder.specs.CutParts.{ClosedParts, page_of, marks_of, image_of, as_page}
+use Rattle.cut_builder.specs.CutParts.{ClosedParts, page_in_cut, marks_of, image_of, as_page}
 use Rattle.mark_pool.specs.declared.place.Place.{Place}
 use Rattle.mark_pool.specs.Edges.{place, IsMarkAt, IsEdge}
 use Rattle.mark_pool.specs.Marks.{times, all_parts}
-use Rattle.mark_pool.specs.Seats.{Made, Known, IsOf}
+use Rattle.mark_pool.specs.Seats.{Made, Known, IsSeatOf}
 
 -- a place that may be scanned: one of the cut's, at which a mark stands
 pub record IsListed (cut : ClosedParts) (p : Place) : Type 0 where
@@ -69,9 +69,9 @@ pub record Looks (before after : Known) : Type 0 where
   pub parts : after.parts ≡ before.parts
 
 -- a name is in use in the image of its page
-abbrev pub is_in : NameParts → Option (List SlotParts) → Bool
-is_in name None = false
-is_in name (Some slots) = has_name (as_page name.page slots) name
+abbrev pub is_used_name : NameParts → Option (List SlotParts) → Bool
+is_used_name name None = false
+is_used_name name (Some slots) = page_has_name (as_page name.page slots) name
 
 -- the name is the target of one of these references and is in use in some image
 pub record IsTarget (cut : ClosedParts) (refs : List (Option NameParts)) (to : NameParts) : Type 0 where
@@ -89,7 +89,7 @@ AreMarked cut refs = (to : NameParts) → IsTarget cut refs to → IsMarkAt cut 
 -- each target of the object at a place, in one image of its page, was seen marked
 abbrev pub IsFollowed : ClosedParts → ℕ → ℕ → ℕ → List Place → Type 0
 IsFollowed cut page slot which seen =
-    (slots : List SlotParts) → image_of (page_of cut.pages page) which ≡ Some slots
+    (slots : List SlotParts) → image_of (page_in_cut cut.pages page) which ≡ Some slots
     → (slot_at (as_page page slots) slot).in_use ≡ true
     → AreSeen cut (slot_at (as_page page slots) slot).refs seen
 
@@ -102,14 +102,14 @@ abbrev pub AreClosedOn : ClosedParts → List Place → ℕ → Type 0
 AreClosedOn cut claims pages = (page : ℕ) → page < pages → IsClosedOn cut claims page
 
 -- the root is among the claims where it is in use
-abbrev pub IsRooted : ClosedParts → List Place → Type 0
-IsRooted cut claims = has_object (cut_graph cut.pages) root_name ≡ true → 0 < times 0 0 claims
+abbrev pub ClaimsRoot : ClosedParts → List Place → Type 0
+ClaimsRoot cut claims = has_object (cut_graph cut.pages) root_name ≡ true → 0 < times 0 0 claims
 
 -- the seat is the table's, has all parts, has claimed the root, and knows scanned what was taken
-pub record IsWhole (t : Made) (s : Known) : Type 0 where
-  pub own : IsOf t s
+pub record IsWholeSeat (t : Made) (s : Known) : Type 0 where
+  pub own : IsSeatOf t s
   pub parts : s.parts ≡ all_parts
-  pub rooted : IsRooted t.cut s.claims
+  pub rooted : ClaimsRoot t.cut s.claims
   pub tidy : IsTidy s
 
 -- the sets of the pages so far are the claims, each of them once and a mark

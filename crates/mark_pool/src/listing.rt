@@ -4,7 +4,7 @@ ghost use Rattle.std.specs.Prelude.{◌≡◌, ℕ, ◌<◌, ◌⊎◌, None, le
 ghost use Rattle.std.specs.List.{All};
 ghost use Rattle.mark_pool.specs.Edges.{IsMarkAt};
 ghost use Rattle.mark_pool.specs.Marks.{all_parts};
-ghost use Rattle.mark_pool.specs.Seats.{IsOf};
+ghost use Rattle.mark_pool.specs.Seats.{IsSeatOf};
 ghost use Rattle.mark_pool.specs.Walks.{AreClaims, AreClosedOn, IsClosedOn, IsListed, IsOpen, Looks};
 
 use crate::place::Place;
@@ -66,7 +66,7 @@ fn list_page(
     list: &mut Vec<Place>,
 ) -> Result<Option<Place>, Memory>
     requires cut { table.now.cut ≡ cut.now }
-    requires own { IsOf table.now seat.old }
+    requires own { IsSeatOf table.now seat.old }
     requires parts { seat.old.parts ≡ all_parts }
     requires page { page < length cut.now.pages }
     requires listed { All (IsListed cut.now) list.old.items }
@@ -94,7 +94,7 @@ pub(crate) fn list_all(
     list: &mut Vec<Place>,
 ) -> Result<Option<Place>, Memory>
     requires cut { table.now.cut ≡ cut.now }
-    requires own { IsOf table.now seat.old }
+    requires own { IsSeatOf table.now seat.old }
     requires parts { seat.old.parts ≡ all_parts }
     requires listed { All (IsListed cut.now) list.old.items }
     ensures looks { Looks seat.old seat.new }
@@ -129,7 +129,7 @@ pub(crate) fn read_marks(
     seat: &mut MarkSeat,
 ) -> Result<Vec<SlotSet>, Memory>
     requires cut { table.now.cut ≡ cut.now }
-    requires own { IsOf table.now seat.old }
+    requires own { IsSeatOf table.now seat.old }
     requires parts { seat.old.parts ≡ all_parts }
     ensures count { IfOk result (λ marks. length marks.items ≡ length cut.now.pages) }
     ensures claims { IfOk result (λ marks. AreClaims cut.now seat.old.claims marks.items) }

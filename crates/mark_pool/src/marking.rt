@@ -1,10 +1,10 @@
 //! Marking a cut.
 ghost use Rattle.std.specs.Prelude.{◌≡◌, ◌<◌, ◌≤◌, ◌↔◌, true, false, length, IfErr, IfOk, OnOk};
 ghost use Rattle.cut_model.specs.Doomed.{AreMarks};
-ghost use Rattle.cut_builder.specs.CutParts.{starts_of, marks_of, HasExactMarks};
+ghost use Rattle.cut_builder.specs.CutParts.{cut_starts, marks_of, HasExactMarks};
 ghost use Rattle.mark_pool.specs.Jobs.{AreWorkers};
 ghost use Rattle.mark_pool.specs.Seats.{first_seat};
-ghost use Rattle.mark_pool.specs.Walks.{AreClosedOn, IsWhole};
+ghost use Rattle.mark_pool.specs.Walks.{AreClosedOn, IsWholeSeat};
 ghost use Rattle.mark_pool.specs.Unscanned.{unscanned};
 
 use crate::listing::{list_all, read_marks};
@@ -34,7 +34,7 @@ const FIRST_QUOTA: u64 = 256;
 fn claim_root(table: &MarkTable, cut: &ClosedCut, seat: &mut MarkSeat)
     requires cut { table.now.cut ≡ cut.now }
     requires first { seat.old ≡ first_seat table.now }
-    ensures { IsWhole table.now seat.new }
+    ensures { IsWholeSeat table.now seat.new }
 {
     if is_in_use(cut, &Name::root()) {
         seat.claim(table, 0, 0);
@@ -55,10 +55,10 @@ fn next_round<R: Threads + Sync, G: Gate>(
     quota: u64,
 ) -> Result<bool, Memory>
     requires cut { table.now.cut ≡ cut.now }
-    requires whole { IsWhole table.now seat.old }
+    requires whole { IsWholeSeat table.now seat.old }
     requires workers { AreWorkers workers }
     requires quota { quota ≤ MOST_QUOTA }
-    ensures whole { OnOk result (IsWhole table.now seat.new) }
+    ensures whole { OnOk result (IsWholeSeat table.now seat.new) }
     ensures fewer { IfOk result (λ again. again ≡ true → unscanned (length cut.now.pages) seat.new.scans < unscanned (length cut.now.pages) seat.old.scans) }
     ensures closed { IfOk result (λ again. again ≡ false → AreClosedOn cut.now seat.new.claims (length cut.now.pages)) }
 {
@@ -95,10 +95,10 @@ fn mark_all<R: Threads + Sync, G: Gate>(
     workers: u32,
 ) -> Result<Vec<SlotSet>, Memory>
     requires cut { table.now.cut ≡ cut.now }
-    requires whole { IsWhole table.now seat.old }
+    requires whole { IsWholeSeat table.now seat.old }
     requires workers { AreWorkers workers }
     ensures count { IfOk result (λ marks. length marks.items ≡ length cut.now.pages) }
-    ensures exact { IfOk result (λ marks. AreMarks (starts_of cut.now) cut.now.pages (marks_of marks.items)) }
+    ensures exact { IfOk result (λ marks. AreMarks (cut_starts cut.now) cut.now.pages (marks_of marks.items)) }
 {
     let mut list = Vec::new(alloc);
     let mut quota = FIRST_QUOTA;
@@ -123,7 +123,7 @@ fn find_marks<R: Threads + Sync, G: Gate>(
 ) -> Result<Vec<SlotSet>, Memory>
     requires { AreWorkers workers }
     ensures count { IfOk result (λ marks. length marks.items ≡ length cut.now.pages) }
-    ensures exact { IfOk result (λ marks. AreMarks (starts_of cut.now) cut.now.pages (marks_of marks.items)) }
+    ensures exact { IfOk result (λ marks. AreMarks (cut_starts cut.now) cut.now.pages (marks_of marks.items)) }
 {
     let (table, mut seat) = MarkTable::new(alloc, cut)?;
     claim_root(&table, cut, &mut seat);

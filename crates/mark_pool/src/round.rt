@@ -2,9 +2,9 @@
 ghost use Rattle.std.specs.Prelude.{◌≡◌, ℕ, ◌+◌, ◌<◌, ◌≤◌, length, IfOk, OnOk, vec_len};
 ghost use Rattle.std.specs.List.{All};
 ghost use Rattle.mark_pool.specs.Marks.{all_parts, times};
-ghost use Rattle.mark_pool.specs.Seats.{IsOf, less_one_part};
-ghost use Rattle.mark_pool.specs.Jobs.{HasMore, HasSame, IsBack, IsReady};
-ghost use Rattle.mark_pool.specs.Walks.{IsListed, IsWhole};
+ghost use Rattle.mark_pool.specs.Seats.{IsSeatOf, less_one_part};
+ghost use Rattle.mark_pool.specs.Jobs.{HasMore, HasSame, IsBack, IsReadyJob};
+ghost use Rattle.mark_pool.specs.Walks.{IsListed, IsWholeSeat};
 
 use crate::place::Place;
 use crate::table::{MarkSeat, MarkTable};
@@ -30,12 +30,12 @@ fn job_for(
     piece: &[Place],
     quota: u64,
 ) -> Result<Job, Memory>
-    requires own { IsOf table.now seat.old }
+    requires own { IsSeatOf table.now seat.old }
     requires parts { 2 ≤ seat.old.parts }
     requires quota { quota ≤ MOST_QUOTA }
     requires listed { All (IsListed cut.now) piece.now }
     ensures kept { OnOk result (seat.new ≡ less_one_part seat.old) }
-    ensures ready { IfOk result (IsReady table.now cut.now) }
+    ensures ready { IfOk result (IsReadyJob table.now cut.now) }
 {
     let mut places = Vec::with_capacity(alloc, piece.len() + ROOM)?;
     places.extend_from_slice(piece)?;
@@ -58,15 +58,15 @@ fn deal(
     workers: u32,
     quota: u64,
 ) -> Result<Vec<Job>, Memory>
-    requires own { IsOf table.now seat.old }
+    requires own { IsSeatOf table.now seat.old }
     requires quota { quota ≤ MOST_QUOTA }
     requires parts { workers < seat.old.parts }
     requires listed { All (IsListed cut.now) list.now }
-    ensures own { OnOk result (IsOf table.now seat.new) }
+    ensures own { OnOk result (IsSeatOf table.now seat.new) }
     ensures same { OnOk result (HasSame seat.old seat.new) }
     ensures parts { OnOk result (seat.new.parts + workers ≡ seat.old.parts) }
     ensures count { IfOk result (λ jobs. length jobs.items ≡ workers) }
-    ensures ready { IfOk result (λ jobs. All (IsReady table.now cut.now) jobs.items) }
+    ensures ready { IfOk result (λ jobs. All (IsReadyJob table.now cut.now) jobs.items) }
 {
     let mut jobs = Vec::new(alloc);
     let mut rest = list;
@@ -81,9 +81,9 @@ fn deal(
 
 /// Joins the seats of all workers again.
 fn join_all(table: &MarkTable, seat: &mut MarkSeat, mut backs: Vec<MarkSeat>)
-    requires own { IsOf table.now seat.old }
+    requires own { IsSeatOf table.now seat.old }
     requires backs { All (IsBack table.now) backs.items }
-    ensures own { IsOf table.now seat.new }
+    ensures own { IsSeatOf table.now seat.new }
     ensures parts { seat.new.parts ≡ seat.old.parts + vec_len backs }
     ensures more { HasMore seat.old seat.new }
 {
@@ -105,11 +105,11 @@ pub(crate) fn round<R: Threads + Sync, G: Gate>(
     quota: u64,
 ) -> Result<(), Memory>
     requires cut { table.now.cut ≡ cut.now }
-    requires whole { IsWhole table.now seat.old }
+    requires whole { IsWholeSeat table.now seat.old }
     requires workers { workers ≤ 16 }
     requires quota { quota ≤ MOST_QUOTA }
     requires listed { All (IsListed cut.now) list.now }
-    ensures whole { OnOk result (IsWhole table.now seat.new) }
+    ensures whole { OnOk result (IsWholeSeat table.now seat.new) }
     ensures more { OnOk result (HasMore seat.old seat.new) }
 {
     let jobs = deal(alloc, table, cut, seat, list, workers, quota)?;
@@ -117,7 +117,7 @@ pub(crate) fn round<R: Threads + Sync, G: Gate>(
         threads,
         jobs,
         &|job: Job| -> MarkSeat
-            requires { (table.now.cut ≡ cut.now) × IsReady table.now cut.now job }
+            requires { (table.now.cut ≡ cut.now) × IsReadyJob table.now cut.now job }
             ensures { IsBack table.entry.now result }
         { work(gate, table, cut, job) },
     )?;

@@ -4,11 +4,11 @@ ghost use Rattle.std.specs.List.{All};
 ghost use Rattle.object_graph.specs.NameParts.{NameParts};
 ghost use Rattle.object_graph.specs.Graphs.{has_object, is_to};
 ghost use Rattle.cut_model.specs.CutPages.{cut_graph};
-ghost use Rattle.cut_builder.specs.CutParts.{page_of, image_of, HasOneNameEach};
+ghost use Rattle.cut_builder.specs.CutParts.{page_in_cut, image_of, HasOneNameEach};
 ghost use Rattle.mark_pool.specs.Edges.{IsMarkAt};
 ghost use Rattle.mark_pool.specs.Marks.{all_parts, times};
-ghost use Rattle.mark_pool.specs.Seats.{IsOf};
-ghost use Rattle.mark_pool.specs.Walks.{AreMarked, AreSeen, IsFollowed, IsListed, IsTidy, MarksMore, Scans, Works, is_in};
+ghost use Rattle.mark_pool.specs.Seats.{IsSeatOf};
+ghost use Rattle.mark_pool.specs.Walks.{AreMarked, AreSeen, IsFollowed, IsListed, IsTidy, MarksMore, Scans, Works, is_used_name};
 
 use crate::place::Place;
 use crate::table::{MarkSeat, MarkTable};
@@ -20,7 +20,7 @@ use object_graph::{MOST_SLOTS, Name};
 #[inline(always)]
 fn is_in_image(cut: &ClosedCut, name: &Name, which: u32) -> bool
     requires { name.now.page < length cut.now.pages }
-    ensures { result ≡ is_in name.now (image_of (page_of cut.now.pages name.now.page) which) }
+    ensures { result ≡ is_used_name name.now (image_of (page_in_cut cut.now.pages name.now.page) which) }
 {
     match cut.image(name.page(), which) {
         Some(image) => image.has(*name),
@@ -32,7 +32,7 @@ fn is_in_image(cut: &ClosedCut, name: &Name, which: u32) -> bool
 #[inline(always)]
 fn is_on_page(cut: &ClosedCut, name: &Name) -> bool
     requires { name.now.page < length cut.now.pages }
-    ensures { let p = page_of cut.now.pages name.now.page in result ≡ (is_in name.now (image_of p 0) || (is_in name.now (image_of p 1) || is_in name.now (image_of p 2))) }
+    ensures { let p = page_in_cut cut.now.pages name.now.page in result ≡ (is_used_name name.now (image_of p 0) || (is_used_name name.now (image_of p 1) || is_used_name name.now (image_of p 2))) }
 {
     if is_in_image(cut, name, 0) {
         return true;
@@ -70,7 +70,7 @@ fn add(list: &mut Vec<Place>, page: u32, slot: u16, cut: &ClosedCut)
 #[inline(always)]
 fn is_marked(table: &MarkTable, cut: &ClosedCut, seat: &mut MarkSeat, page: u32, slot: u16) -> bool
     requires cut { table.now.cut ≡ cut.now }
-    requires own { IsOf table.now seat.old }
+    requires own { IsSeatOf table.now seat.old }
     requires slot { slot < MOST_SLOTS }
     ensures more { MarksMore seat.old seat.new }
     ensures seen { result ≡ true → 0 < times page slot seat.new.seen }
@@ -93,7 +93,7 @@ fn follow(
     target: &Option<Name>,
 )
     requires cut { table.now.cut ≡ cut.now }
-    requires own { IsOf table.now seat.old }
+    requires own { IsSeatOf table.now seat.old }
     requires marked { (to : NameParts) → is_to to target.now ≡ true → has_object (cut_graph cut.now.pages) to ≡ true → IsMarkAt cut.now to.page to.slot }
     requires listed { All (IsListed cut.now) list.old.items }
     ensures more { MarksMore seat.old seat.new }
@@ -124,7 +124,7 @@ fn follow_all(
     refs: &[Option<Name>],
 )
     requires cut { table.now.cut ≡ cut.now }
-    requires own { IsOf table.now seat.old }
+    requires own { IsSeatOf table.now seat.old }
     requires marked { AreMarked cut.now refs.now }
     requires listed { All (IsListed cut.now) list.old.items }
     ensures more { MarksMore seat.old seat.new }
@@ -147,7 +147,7 @@ fn follow_image(
     which: u32,
 )
     requires cut { table.now.cut ≡ cut.now }
-    requires own { IsOf table.now seat.old }
+    requires own { IsSeatOf table.now seat.old }
     requires names { HasOneNameEach cut.now.pages }
     requires at { IsListed cut.now at.now }
     requires listed { All (IsListed cut.now) list.old.items }
@@ -168,7 +168,7 @@ fn follow_image(
 #[inline(always)]
 fn scan(table: &MarkTable, cut: &ClosedCut, seat: &mut MarkSeat, list: &mut Vec<Place>, at: &Place)
     requires cut { table.now.cut ≡ cut.now }
-    requires own { IsOf table.now seat.old }
+    requires own { IsSeatOf table.now seat.old }
     requires names { HasOneNameEach cut.now.pages }
     requires at { IsListed cut.now at.now }
     requires took { 0 < times at.now.page at.now.slot seat.old.takes }
@@ -192,7 +192,7 @@ pub(crate) fn visit(
     at: &Place,
 )
     requires cut { table.now.cut ≡ cut.now }
-    requires own { IsOf table.now seat.old }
+    requires own { IsSeatOf table.now seat.old }
     requires names { HasOneNameEach cut.now.pages }
     requires at { IsListed cut.now at.now }
     requires listed { All (IsListed cut.now) list.old.items }

@@ -4,7 +4,7 @@ ghost use Rattle.std.specs.Prelude.{◌≡◌, ℕ, ◌<◌, ◌≤◌, ◌==◌
 ghost use Rattle.mark_pool.specs.declared.place.Place.{Place as Spot};
 ghost use Rattle.mark_pool.specs.Edges.{IsMarkAt, IsEdge};
 ghost use Rattle.mark_pool.specs.Marks.{all_parts, times, marked_of};
-ghost use Rattle.mark_pool.specs.Seats.{IsOf, first_seat, with_claim, with_take, with_scan, with_seen, less_one_part, split_off, joined_seats};
+ghost use Rattle.mark_pool.specs.Seats.{IsSeatOf, first_seat, with_claim, with_take, with_scan, with_seen, less_one_part, split_off, joined_seats};
 
 use crate::plays::{Claim, Count, Halve, Look, LookScanned, Scanned, Take, Unite};
 use crate::rule::{Board, Stand};
@@ -72,7 +72,7 @@ impl MarkSeat {
     /// marked what is marked.
     #[inline(always)]
     pub fn claim(&mut self, table: &MarkTable, page: u32, slot: u16) -> bool
-        requires own { IsOf table.now self.old }
+        requires own { IsSeatOf table.now self.old }
         requires page { page < length table.now.cut.pages }
         requires slot { slot < MOST_SLOTS }
         requires mark { IsMarkAt table.now.cut page slot }
@@ -92,7 +92,7 @@ impl MarkSeat {
     /// itself taken what was taken.
     #[inline(always)]
     pub fn take_to_scan(&mut self, table: &MarkTable, page: u32, slot: u16) -> bool
-        requires own { IsOf table.now self.old }
+        requires own { IsSeatOf table.now self.old }
         requires page { page < length table.now.cut.pages }
         requires slot { slot < MOST_SLOTS }
         ensures took { self.new ≡ with_take self.old page slot result }
@@ -110,7 +110,7 @@ impl MarkSeat {
     /// Says that a place that the seat took is scanned: it has seen all targets of the place marked.
     #[inline(always)]
     pub fn scanned(&mut self, table: &MarkTable, page: u32, slot: u16)
-        requires own { IsOf table.now self.old }
+        requires own { IsSeatOf table.now self.old }
         requires page { page < length table.now.cut.pages }
         requires slot { slot < MOST_SLOTS }
         requires took { 0 < times page slot self.old.takes }
@@ -128,7 +128,7 @@ impl MarkSeat {
     /// The mark word of a page. The seat with all parts has itself marked what is marked.
     #[inline(always)]
     pub(crate) fn marks(&mut self, table: &MarkTable, page: u32) -> u64
-        requires own { IsOf table.now self.old }
+        requires own { IsSeatOf table.now self.old }
         requires page { page < length table.now.cut.pages }
         ensures seen { self.new ≡ with_seen self.old (marked_of page result 64) }
         ensures sound { (slot : ℕ) → bit_at result slot ≡ 1 → IsMarkAt table.now.cut page slot × (slot < MOST_SLOTS) }
@@ -141,7 +141,7 @@ impl MarkSeat {
     /// The word of what is scanned of a page, with all that the seat knows to be scanned. The seat with
     /// all parts has itself marked all targets of what is scanned.
     pub(crate) fn scans(&mut self, table: &MarkTable, page: u32) -> u64
-        requires own { IsOf table.now self.old }
+        requires own { IsSeatOf table.now self.old }
         requires page { page < length table.now.cut.pages }
         ensures same { self.new ≡ self.old }
         ensures targets { self.old.parts ≡ all_parts → (slot : ℕ) (to : Spot) → bit_at result slot ≡ 1 → IsEdge table.now.cut page slot to → 0 < times to.page to.slot self.old.claims }
@@ -156,7 +156,7 @@ impl MarkSeat {
 
     /// Another seat, which has seen as much and gets one part. It takes no memory.
     pub fn split(&mut self, table: &MarkTable) -> Result<MarkSeat, Memory>
-        requires own { IsOf table.now self.old }
+        requires own { IsSeatOf table.now self.old }
         requires parts { 2 ≤ self.old.parts }
         ensures given { result ≡ Ok (split_off self.old) }
         ensures kept { self.new ≡ less_one_part self.old }
@@ -168,8 +168,8 @@ impl MarkSeat {
     /// Takes in what the other seat has seen, its marks, its takes and its parts. Of the answers of
     /// seats that were joined into one, at most one to `take_to_scan` was true for each place.
     pub fn join(&mut self, table: &MarkTable, other: MarkSeat)
-        requires own { IsOf table.now self.old }
-        requires other { IsOf table.now other }
+        requires own { IsSeatOf table.now self.old }
+        requires other { IsSeatOf table.now other }
         ensures joined { self.new ≡ joined_seats self.old other }
         ensures once { (page slot : ℕ) → times page slot self.new.takes ≤ 1 }
     {

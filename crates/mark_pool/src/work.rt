@@ -2,7 +2,7 @@
 ghost use Rattle.std.specs.Prelude.{◌≡◌, ◌<◌, ◌≤◌, length};
 ghost use Rattle.std.specs.List.{All};
 ghost use Rattle.cut_builder.specs.CutParts.{HasOneNameEach};
-ghost use Rattle.mark_pool.specs.Seats.{IsOf};
+ghost use Rattle.mark_pool.specs.Seats.{IsSeatOf};
 ghost use Rattle.mark_pool.specs.Walks.{IsListed, Works};
 
 use crate::place::Place;
@@ -30,7 +30,7 @@ pub(crate) const MOST_QUOTA: u64 = MOST_PAGES as u64 * MOST_SLOTS as u64;
 /// It passes the gate as it starts, and before it takes its n-th place with turn n + 1.
 pub(crate) fn work<G: Gate>(gate: &G, table: &MarkTable, cut: &ClosedCut, job: Job) -> MarkSeat
     requires cut { table.now.cut ≡ cut.now }
-    requires own { IsOf table.now job.seat }
+    requires own { IsSeatOf table.now job.seat }
     requires quota { job.quota ≤ MOST_QUOTA }
     requires places { All (IsListed cut.now) job.places.items }
     ensures { Works job.seat result }

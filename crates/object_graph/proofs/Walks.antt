@@ -11,7 +11,7 @@ use Rattle.std.proofs.lemmas.List.Elements.{recursion_from_All}
 use Rattle.object_graph.specs.NameParts.{NameParts}
 use Rattle.object_graph.specs.Names.{name_eq, number_of, root_name, IsName}
 use Rattle.object_graph.specs.Graphs.{has_object, has_name, has_same_name, is_to, refers, HasEachNameOnce, IsPath, IsReachedFrom}
-use Rattle.object_graph.specs.Walks.{IsTaken, AreReached}
+use Rattle.object_graph.specs.Walks.{AreTakenOver, AreReached}
 use Rattle.object_graph.specs.ObjectParts.{ObjectParts}
 use Rattle.object_graph.proofs.Distinct.{same_name_flips, name_eq_flips}
 use Rattle.object_graph.proofs.Members.{In, any_in, in_any, or_left, or_right}
@@ -85,7 +85,7 @@ apart (x ∷ xs) ys n h m = elim (or_cases (name_eq x.name n) (has_object xs n) 
 -- ---- taking objects
 
 pub taken_none : (wanted : NameParts → Bool) (todo left : List ObjectParts) → ((n : NameParts) → wanted n ≡ true → has_object left n ≡ false)
-    → IsTaken wanted todo left todo left
+    → AreTakenOver wanted todo left todo left
 taken_none wanted todo left h = record {
   same = IsPermutation-refl (todo ++ left);
   gone = λ once n w. h n w;
@@ -94,7 +94,7 @@ taken_none wanted todo left h = record {
 }
 
 pub taken_one : (name : NameParts) (todo left : List ObjectParts) (i : ℕ) (o : ObjectParts) → i < length left → o ≡ get_or left i o → o.name ≡ name
-    → IsTaken (name_eq name) todo left (todo ++ o ∷ []) (remove left i)
+    → AreTakenOver (name_eq name) todo left (todo ++ o ∷ []) (remove left i)
 taken_one name todo left i o lt is named =
     let moves = IsPermutation-remove left i o lt is in
     record {
@@ -110,7 +110,7 @@ taken_one name todo left i o lt is named =
     }
 
 pub taken_both : (a b both : NameParts → Bool) (t0 l0 t1 l1 t2 l2 : List ObjectParts) → ((n : NameParts) → both n ≡ (a n || b n))
-    → IsTaken a t0 l0 t1 l1 → IsTaken b t1 l1 t2 l2 → IsTaken both t0 l0 t2 l2
+    → AreTakenOver a t0 l0 t1 l1 → AreTakenOver b t1 l1 t2 l2 → AreTakenOver both t0 l0 t2 l2
 taken_both a b both t0 l0 t1 l1 t2 l2 is p q = record {
   same = IsPermutation-trans (t0 ++ l0) (t1 ++ l1) (t2 ++ l2) p.same q.same;
   gone = λ once n w. elim (or_cases (a n) (b n) (sym (is n) ∙ w)) [
@@ -125,8 +125,8 @@ taken_both a b both t0 l0 t1 l1 t2 l2 is p q = record {
 }
 
 pub taken_more : {X : Type 0} (wants : X → NameParts → Bool) (xs : List X) (i : ℕ) (x : X) (t0 l0 t1 l1 t2 l2 : List ObjectParts) → i < length xs → x ≡ get_or xs i x
-    → IsTaken (λ n. list_any (λ y. wants y n) (take i xs)) t0 l0 t1 l1 → IsTaken (wants x) t1 l1 t2 l2
-    → IsTaken (λ n. list_any (λ y. wants y n) (take (i + 1) xs)) t0 l0 t2 l2
+    → AreTakenOver (λ n. list_any (λ y. wants y n) (take i xs)) t0 l0 t1 l1 → AreTakenOver (wants x) t1 l1 t2 l2
+    → AreTakenOver (λ n. list_any (λ y. wants y n) (take (i + 1) xs)) t0 l0 t2 l2
 taken_more wants xs i x t0 l0 t1 l1 t2 l2 lt is p q =
     taken_both (λ n. list_any (λ y. wants y n) (take i xs)) (wants x) (λ n. list_any (λ y. wants y n) (take (i + 1) xs)) t0 l0 t1 l1 t2 l2
     (λ n. list_any_more (λ y. wants y n) xs i x lt ∙ ap (λ y. list_any (λ z. wants z n) (take i xs) || wants y n) (sym is)) p q
@@ -141,7 +141,7 @@ pub record IsWalk (graph : List ObjectParts) (starts : List NameParts) (done tod
   pub begun : (n : NameParts) → has_name starts n ≡ true → has_object left n ≡ false
 
 pub walk_begun : (graph : List ObjectParts) (starts : List NameParts) (todo left : List ObjectParts) → HasEachNameOnce graph
-    → IsTaken (has_name starts) [] graph todo left → IsWalk graph starts [] todo left
+    → AreTakenOver (has_name starts) [] graph todo left → IsWalk graph starts [] todo left
 walk_begun graph starts todo left once p = record {
   same = p.same;
   sound = λ n h. elim (p.only n h) [
@@ -201,7 +201,7 @@ once_ahead graph done todo left o once p =
     once_right (done ++ o ∷ []) (todo ++ left) (subst HasEachNameOnce (append_assoc (done ++ o ∷ []) todo left) r)
 
 sound_step : (graph : List ObjectParts) (starts : List NameParts) (done : List ObjectParts) (o : ObjectParts) (todo left todo' left' : List ObjectParts)
-    → IsWalk graph starts done (todo ++ o ∷ []) left → IsTaken (λ n. list_any (is_to n) o.refs) todo left todo' left'
+    → IsWalk graph starts done (todo ++ o ∷ []) left → AreTakenOver (λ n. list_any (is_to n) o.refs) todo left todo' left'
     → (n : NameParts) → has_object ((done ++ o ∷ []) ++ todo') n ≡ true → IsReachedFrom graph starts n
 sound_step graph starts done o todo left todo' left' w t n h =
     let front : List ObjectParts = done ++ o ∷ [] in
@@ -226,7 +226,7 @@ sound_step graph starts done o todo left todo' left' w t n h =
     ]
 
 pub walk_step : (graph : List ObjectParts) (starts : List NameParts) (done : List ObjectParts) (o : ObjectParts) (todo left todo' left' : List ObjectParts) → HasEachNameOnce graph
-    → IsWalk graph starts done (todo ++ o ∷ []) left → IsTaken (λ n. list_any (is_to n) o.refs) todo left todo' left'
+    → IsWalk graph starts done (todo ++ o ∷ []) left → AreTakenOver (λ n. list_any (is_to n) o.refs) todo left todo' left'
     → IsWalk graph starts (done ++ o ∷ []) todo' left'
 walk_step graph starts done o todo left todo' left' once w t = record {
   same = moved graph done todo left todo' left' o w.same t.same;

@@ -6,7 +6,7 @@ use Rattle.object_graph.specs.Graphs.{has_object, HasEachNameOnce, IsReachedFrom
 use Rattle.object_graph.specs.ObjectParts.{ObjectParts}
 
 -- the objects of the wanted names were taken from `left` over to `todo`, and no others
-pub record IsTaken (wanted : NameParts → Bool) (todo left todo' left' : List ObjectParts) : Type 0 where
+pub record AreTakenOver (wanted : NameParts → Bool) (todo left todo' left' : List ObjectParts) : Type 0 where
   pub same : IsPermutation (todo ++ left) (todo' ++ left')
   pub gone : HasEachNameOnce (todo ++ left) → (n : NameParts) → wanted n ≡ true → has_object left' n ≡ false
   pub kept : (n : NameParts) → has_object left n ≡ false → has_object left' n ≡ false

@@ -5,7 +5,7 @@ ghost use Rattle.std.specs.List.Sorted.{IsStrictlyIncreasing};
 ghost use Rattle.object_graph.specs.NameParts.{NameParts, IsName};
 ghost use Rattle.object_graph.specs.Names.{name_eq, number_of};
 ghost use Rattle.object_graph.specs.Graphs.{has_name, has_object, is_to, HasEachNameOnce, IsReachedFrom};
-ghost use Rattle.object_graph.specs.Walks.{AreReached, IsTaken};
+ghost use Rattle.object_graph.specs.Walks.{AreReached, AreTakenOver};
 ghost use Rattle.object_graph.specs.ObjectParts.{ObjectParts};
 
 use crate::graph::Graph;
@@ -45,7 +45,7 @@ fn take_starts(
     left: &mut Vec<Object>,
     starts: &[Name],
 ) -> Result<(), Memory>
-    ensures { OnOk result (IsTaken (has_name starts.now) todo.old.items left.old.items todo.new.items left.new.items) }
+    ensures { OnOk result (AreTakenOver (has_name starts.now) todo.old.items left.old.items todo.new.items left.new.items) }
 {
     'starts: for start in starts {
         take(todo, left, start)?;
@@ -58,7 +58,7 @@ fn take_refs(
     left: &mut Vec<Object>,
     refs: &[Option<Name>],
 ) -> Result<(), Memory>
-    ensures { OnOk result (IsTaken (λ n. list_any (is_to n) refs.now) todo.old.items left.old.items todo.new.items left.new.items) }
+    ensures { OnOk result (AreTakenOver (λ n. list_any (is_to n) refs.now) todo.old.items left.old.items todo.new.items left.new.items) }
 {
     'refs: for target in refs {
         take_target(todo, left, target)?;
@@ -71,7 +71,7 @@ fn take_target(
     left: &mut Vec<Object>,
     target: &Option<Name>,
 ) -> Result<(), Memory>
-    ensures { OnOk result (IsTaken (λ n. is_to n target.now) todo.old.items left.old.items todo.new.items left.new.items) }
+    ensures { OnOk result (AreTakenOver (λ n. is_to n target.now) todo.old.items left.old.items todo.new.items left.new.items) }
 {
     match target {
         Some(name) => take(todo, left, name),
@@ -81,7 +81,7 @@ fn take_target(
 
 /// Takes the object of this name from those left, if it is there, to those to be followed.
 fn take(todo: &mut Vec<Object>, left: &mut Vec<Object>, name: &Name) -> Result<(), Memory>
-    ensures { OnOk result (IsTaken (name_eq name.now) todo.old.items left.old.items todo.new.items left.new.items) }
+    ensures { OnOk result (AreTakenOver (name_eq name.now) todo.old.items left.old.items todo.new.items left.new.items) }
 {
     match place_of(left, name) {
         Some(place) => {

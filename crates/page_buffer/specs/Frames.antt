@@ -20,8 +20,8 @@ abbrev pub with_frame : List Frame → ℕ → Frame → List Frame
 with_frame frames page frame = slice_set frames page frame
 
 -- a frame with another current image
-abbrev pub written : Frame → PageParts → Frame
-written frame image = record { current = image; before = frame.before; dirty = true }
+abbrev pub frame_written : Frame → PageParts → Frame
+frame_written frame image = record { current = image; before = frame.before; dirty = true }
 
 -- a frame whose current image is committed
 abbrev pub settled : Frame → Frame

@@ -1,9 +1,9 @@
 //! The frames of all pages.
 ghost use Rattle.std.specs.Prelude.{◌≡◌, ℕ, ◌+◌, ◌<◌, ◌^◌, true, length, map, IfOk, IfErr, OnErr, IsTrue};
 ghost use Rattle.object_graph.specs.Slots.{has_slot};
-ghost use Rattle.page_image.specs.Slots.{taken, with_number, with_ref};
+ghost use Rattle.page_image.specs.Slots.{taken, slot_with_number, slot_with_ref};
 ghost use Rattle.page_image.specs.Pages.{slot_at, with_slot, IsFull, IsNextName};
-ghost use Rattle.page_buffer.specs.Frames.{clean_frame, frame_at, with_frame, written, settled, reverted, freed_frame, IsFrame, AreFrames};
+ghost use Rattle.page_buffer.specs.Frames.{clean_frame, frame_at, with_frame, frame_written, settled, reverted, freed_frame, IsFrame, AreFrames};
 
 use crate::frame::{Frame, clean, free_in};
 use object_graph::{Memory, Name, OBJECT_FIELDS, SlotSet, Steps};
@@ -84,7 +84,7 @@ impl Buffer {
         requires page { page < length self.old }
         requires slot { slot < length (frame_at self.old page).current.slots }
         requires used { (slot_at (frame_at self.old page).current slot).in_use ≡ true }
-        ensures written { let f = frame_at self.old page in self.new ≡ with_frame self.old page (written f (with_slot f.current slot (with_number number))) }
+        ensures written { let f = frame_at self.old page in self.new ≡ with_frame self.old page (frame_written f (with_slot f.current slot (slot_with_number number))) }
         ensures step { steps.new ≡ steps.old + 1 }
     {
         steps.tick();
@@ -106,7 +106,7 @@ impl Buffer {
         requires slot { slot < length (frame_at self.old page).current.slots }
         requires used { (slot_at (frame_at self.old page).current slot).in_use ≡ true }
         requires field { field < length (slot_at (frame_at self.old page).current slot).refs }
-        ensures written { let f = frame_at self.old page in self.new ≡ with_frame self.old page (written f (with_slot f.current slot (with_ref field target))) }
+        ensures written { let f = frame_at self.old page in self.new ≡ with_frame self.old page (frame_written f (with_slot f.current slot (slot_with_ref field target))) }
         ensures step { steps.new ≡ steps.old + 1 }
     {
         steps.tick();
@@ -125,7 +125,7 @@ impl Buffer {
     ) -> Result<Name, PageFull>
         requires { page < length self.old }
         ensures next { IfOk result (λ name. IsNextName (frame_at self.old page).current name) }
-        ensures taken { IfOk result (λ name. let f = frame_at self.old page in self.new ≡ with_frame self.old page (written f (with_slot f.current name.slot taken))) }
+        ensures taken { IfOk result (λ name. let f = frame_at self.old page in self.new ≡ with_frame self.old page (frame_written f (with_slot f.current name.slot taken))) }
         ensures full { OnErr result (IsFull (frame_at self.old page).current) }
         ensures unchanged { OnErr result (self.new ≡ self.old) }
         ensures step { steps.new ≡ steps.old + 1 }

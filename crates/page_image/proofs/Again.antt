@@ -12,24 +12,24 @@ use Rattle.object_graph.specs.Slots.{below}
 use Rattle.object_graph.specs.declared.limits.TheConstants.{MOST_PAGES, MOST_SLOTS}
 use Rattle.object_graph.specs.declared.names.TheConstants.{OBJECT_FIELDS}
 use Rattle.object_graph.specs.declared.sizes.TheConstants.{SLOTS_PER_PAGE}
-use Rattle.page_image.specs.Slots.{IsWhole, IsReference, fresh_slot}
+use Rattle.page_image.specs.Slots.{IsWholeSlot, IsReference, fresh_slot}
 use Rattle.page_image.specs.Pages.{PageParts, IsPage}
 use Rattle.page_image.specs.Spelling.{reference_number, slot_bytes, header_bytes, page_bytes}
-use Rattle.page_image.specs.Fields.{first_wrong, header_fields, slot_fields, slot_of, number_at, is_reference, is_name_number, reference_of, name_of, slot_piece, slot_start, fields_of_slot, page_at}
+use Rattle.page_image.specs.Fields.{first_wrong, header_fields, slot_fields, slot_of, number_in_bytes, is_reference, is_name_number, reference_of, numbered_name, slot_piece, slot_start, fields_of_slot, page_at}
 use Rattle.page_image.proofs.Tables.{one_more_right, slot_right-moved, page_at-right}
 
 -- the header of a page with this number is right, and has this number
 pub header_again : (number : ℕ) (rest : List ℕ) → number < MOST_PAGES → first_wrong (header_fields (header_bytes number ++ rest)) ≡ None
 header_again number rest small =
-    let is : number_at w32 (header_bytes number ++ rest) 4 ≡ number = from_be_bytes-to_be_bytes_4 number (omega (arith, small)) in
-    let right : nat_lt (number_at w32 (header_bytes number ++ rest) 4) MOST_PAGES ≡ true = rw is (lt-ltb number MOST_PAGES small) in
+    let is : number_in_bytes w32 (header_bytes number ++ rest) 4 ≡ number = from_be_bytes-to_be_bytes_4 number (omega (arith, small)) in
+    let right : nat_lt (number_in_bytes w32 (header_bytes number ++ rest) 4) MOST_PAGES ≡ true = rw is (lt-ltb number MOST_PAGES small) in
     rw right refl
 
-pub number_again : (number : ℕ) (rest : List ℕ) → number < MOST_PAGES → number_at w32 (header_bytes number ++ rest) 4 ≡ number
+pub number_again : (number : ℕ) (rest : List ℕ) → number < MOST_PAGES → number_in_bytes w32 (header_bytes number ++ rest) 4 ≡ number
 number_again number rest small = from_be_bytes-to_be_bytes_4 number (omega (arith, small))
 
 -- the number of a name is read as that name
-pub name_again : (n : NameParts) → IsName n → name_of (n.page * 4294967296 + n.slot * 65536 + n.generation) ≡ n
+pub name_again : (n : NameParts) → IsName n → numbered_name (n.page * 4294967296 + n.slot * 65536 + n.generation) ≡ n
 name_again n is =
     let page = is.page in
     let slot = is.slot in
@@ -66,19 +66,19 @@ abbrev slot_with : Bool → ℕ → ℕ → Option NameParts → Option NamePart
 slot_with in_use generation number a b c d = record { in_use = in_use; generation = generation; number = number; refs = a ∷ b ∷ c ∷ d ∷ [] }
 
 -- the fields of a slot that was spelled are right
-used_right : (generation number : ℕ) (a b c d : Option NameParts) → IsWhole (slot_with true generation number a b c d) → first_wrong (slot_fields (slot_bytes (slot_with true generation number a b c d))) ≡ None
+used_right : (generation number : ℕ) (a b c d : Option NameParts) → IsWholeSlot (slot_with true generation number a b c d) → first_wrong (slot_fields (slot_bytes (slot_with true generation number a b c d))) ≡ None
 used_right generation number a b c d is =
     let bytes = slot_bytes (slot_with true generation number a b c d) in
     let refs = is.slot.refs in
-    let g : nat_le 1 (number_at w16 bytes 2) ≡ true = rw (from_be_bytes-to_be_bytes_2 generation is.generation) (le-leb 1 generation (is.slot.used refl)) in
-    let ra : is_reference true (number_at w64 bytes 16) ≡ true = rw (from_be_bytes-to_be_bytes_8 (reference_number a) (reference_small a refs.0)) (reference_right true a refs.0 (λ w. absurd (cc w))) in
-    let rb : is_reference true (number_at w64 bytes 24) ≡ true = rw (from_be_bytes-to_be_bytes_8 (reference_number b) (reference_small b refs.1.0)) (reference_right true b refs.1.0 (λ w. absurd (cc w))) in
-    let rc : is_reference true (number_at w64 bytes 32) ≡ true = rw (from_be_bytes-to_be_bytes_8 (reference_number c) (reference_small c refs.1.1.0)) (reference_right true c refs.1.1.0 (λ w. absurd (cc w))) in
-    let rd : is_reference true (number_at w64 bytes 40) ≡ true = rw (from_be_bytes-to_be_bytes_8 (reference_number d) (reference_small d refs.1.1.1.0)) (reference_right true d refs.1.1.1.0 (λ w. absurd (cc w))) in
+    let g : nat_le 1 (number_in_bytes w16 bytes 2) ≡ true = rw (from_be_bytes-to_be_bytes_2 generation is.generation) (le-leb 1 generation (is.slot.used refl)) in
+    let ra : is_reference true (number_in_bytes w64 bytes 16) ≡ true = rw (from_be_bytes-to_be_bytes_8 (reference_number a) (reference_small a refs.0)) (reference_right true a refs.0 (λ w. absurd (cc w))) in
+    let rb : is_reference true (number_in_bytes w64 bytes 24) ≡ true = rw (from_be_bytes-to_be_bytes_8 (reference_number b) (reference_small b refs.1.0)) (reference_right true b refs.1.0 (λ w. absurd (cc w))) in
+    let rc : is_reference true (number_in_bytes w64 bytes 32) ≡ true = rw (from_be_bytes-to_be_bytes_8 (reference_number c) (reference_small c refs.1.1.0)) (reference_right true c refs.1.1.0 (λ w. absurd (cc w))) in
+    let rd : is_reference true (number_in_bytes w64 bytes 40) ≡ true = rw (from_be_bytes-to_be_bytes_8 (reference_number d) (reference_small d refs.1.1.1.0)) (reference_right true d refs.1.1.1.0 (λ w. absurd (cc w))) in
     rw (g, ra, rb, rc, rd) refl
 
 -- it is read as it was
-used_again : (generation number : ℕ) (a b c d : Option NameParts) → IsWhole (slot_with true generation number a b c d) → slot_of (slot_bytes (slot_with true generation number a b c d)) ≡ slot_with true generation number a b c d
+used_again : (generation number : ℕ) (a b c d : Option NameParts) → IsWholeSlot (slot_with true generation number a b c d) → slot_of (slot_bytes (slot_with true generation number a b c d)) ≡ slot_with true generation number a b c d
 used_again generation number a b c d is =
     let refs = is.slot.refs in
     let g = from_be_bytes-to_be_bytes_2 generation is.generation in
@@ -100,10 +100,10 @@ free_again : (generation : ℕ) → generation < 2 ^ 16 → slot_of (slot_bytes 
 free_again generation small = let g = from_be_bytes-to_be_bytes_2 generation small in λ i. record { in_use = false; generation = g i; number = 0; refs = None ∷ None ∷ None ∷ None ∷ [] }
 
 -- each whole slot is read from its bytes
-pub slot_again : (s : SlotParts) → IsWhole s → (first_wrong (slot_fields (slot_bytes s)) ≡ None) × (slot_of (slot_bytes s) ≡ s)
+pub slot_again : (s : SlotParts) → IsWholeSlot s → (first_wrong (slot_fields (slot_bytes s)) ≡ None) × (slot_of (slot_bytes s) ≡ s)
 slot_again s is = by_state s.in_use s.generation s.number s.refs is
   where
-    by_refs : (generation number : ℕ) (refs : List (Option NameParts)) → IsWhole (record { in_use = true; generation = generation; number = number; refs = refs })
+    by_refs : (generation number : ℕ) (refs : List (Option NameParts)) → IsWholeSlot (record { in_use = true; generation = generation; number = number; refs = refs })
         → (first_wrong (slot_fields (slot_bytes (record { in_use = true; generation = generation; number = number; refs = refs }))) ≡ None) × (slot_of (slot_bytes (record { in_use = true; generation = generation; number = number; refs = refs })) ≡ record { in_use = true; generation = generation; number = number; refs = refs })
     by_refs generation number [] w = absurd (cc w.slot.count)
     by_refs generation number (a ∷ []) w = absurd (let n = w.slot.count in omega (arith, n))
@@ -112,7 +112,7 @@ slot_again s is = by_state s.in_use s.generation s.number s.refs is
     by_refs generation number (a ∷ b ∷ c ∷ d ∷ []) w = (used_right generation number a b c d w, used_again generation number a b c d w)
     by_refs generation number (a ∷ b ∷ c ∷ d ∷ e ∷ more) w = absurd (let n = w.slot.count in omega (arith, n))
 
-    by_state : (in_use : Bool) (generation number : ℕ) (refs : List (Option NameParts)) → IsWhole (record { in_use = in_use; generation = generation; number = number; refs = refs })
+    by_state : (in_use : Bool) (generation number : ℕ) (refs : List (Option NameParts)) → IsWholeSlot (record { in_use = in_use; generation = generation; number = number; refs = refs })
         → (first_wrong (slot_fields (slot_bytes (record { in_use = in_use; generation = generation; number = number; refs = refs }))) ≡ None) × (slot_of (slot_bytes (record { in_use = in_use; generation = generation; number = number; refs = refs })) ≡ record { in_use = in_use; generation = generation; number = number; refs = refs })
     by_state true generation number refs w = by_refs generation number refs w
     by_state false generation number refs w =
@@ -133,7 +133,7 @@ length-slot_bytes s count = by_count s.in_use s.generation s.number s.refs count
     by_count in_use generation number (a ∷ b ∷ c ∷ d ∷ e ∷ more) n = absurd (omega (arith, n))
 
 -- the piece at a place, of pieces of 48 bytes after a front
-pub piece_again : (slots : List SlotParts) (front : List ℕ) (n at : ℕ) (d : SlotParts) → AllByRecursion IsWhole slots → at ≡ length front + 48 * n → n < length slots
+pub piece_again : (slots : List SlotParts) (front : List ℕ) (n at : ℕ) (d : SlotParts) → AllByRecursion IsWholeSlot slots → at ≡ length front + 48 * n → n < length slots
     → take 48 (drop at (front ++ flat_map slot_bytes slots)) ≡ slot_bytes (get_or slots n d)
 piece_again [] front n at d whole is among = absurd (omega (arith, among))
 piece_again (s ∷ slots) front zero at d whole is among =
@@ -152,15 +152,15 @@ piece_again (s ∷ slots) front (suc n) at d whole is among =
 abbrev spelled_slots : ℕ → List SlotParts → List ℕ
 spelled_slots number slots = header_bytes number ++ flat_map slot_bytes slots
 
-pub slot_piece_again : (number : ℕ) (slots : List SlotParts) (n : ℕ) (d : SlotParts) → AllByRecursion IsWhole slots → n < length slots → slot_piece (spelled_slots number slots) n ≡ slot_bytes (get_or slots n d)
+pub slot_piece_again : (number : ℕ) (slots : List SlotParts) (n : ℕ) (d : SlotParts) → AllByRecursion IsWholeSlot slots → n < length slots → slot_piece (spelled_slots number slots) n ≡ slot_bytes (get_or slots n d)
 slot_piece_again number slots n d whole among = piece_again slots (header_bytes number) n (slot_start n) d whole refl among
 
-pub whole_at : (slots : List SlotParts) (n : ℕ) (d : SlotParts) → AllByRecursion IsWhole slots → n < length slots → IsWhole (get_or slots n d)
+pub whole_at : (slots : List SlotParts) (n : ℕ) (d : SlotParts) → AllByRecursion IsWholeSlot slots → n < length slots → IsWholeSlot (get_or slots n d)
 whole_at [] n d whole among = absurd (omega (arith, among))
 whole_at (s ∷ slots) zero d whole among = whole.0
 whole_at (s ∷ slots) (suc n) d whole among = whole_at slots n d whole.1 (omega (arith, among))
 
-pub slots_right : (number : ℕ) (slots : List SlotParts) (d : SlotParts) (n : ℕ) → AllByRecursion IsWhole slots → n ≤ length slots → first_wrong (flat_map (fields_of_slot (spelled_slots number slots)) (below n)) ≡ None
+pub slots_right : (number : ℕ) (slots : List SlotParts) (d : SlotParts) (n : ℕ) → AllByRecursion IsWholeSlot slots → n ≤ length slots → first_wrong (flat_map (fields_of_slot (spelled_slots number slots)) (below n)) ≡ None
 slots_right number slots d zero whole few = refl
 slots_right number slots d (suc n) whole few =
     let bytes = spelled_slots number slots in
@@ -168,7 +168,7 @@ slots_right number slots d (suc n) whole few =
     let right : first_wrong (slot_fields (slot_piece bytes n)) ≡ None = ap (λ (l : List ℕ). first_wrong (slot_fields l)) (slot_piece_again number slots n d whole among) ∙ (slot_again (get_or slots n d) (whole_at slots n d whole among)).0 in
     one_more_right (fields_of_slot bytes) n (slots_right number slots d n whole (omega (arith, few))) (slot_right-moved bytes n right)
 
-pub slots_again : (number : ℕ) (slots : List SlotParts) (d : SlotParts) (n : ℕ) → AllByRecursion IsWhole slots → n ≤ length slots → map (λ (k : ℕ). slot_of (slot_piece (spelled_slots number slots) k)) (below n) ≡ take n slots
+pub slots_again : (number : ℕ) (slots : List SlotParts) (d : SlotParts) (n : ℕ) → AllByRecursion IsWholeSlot slots → n ≤ length slots → map (λ (k : ℕ). slot_of (slot_piece (spelled_slots number slots) k)) (below n) ≡ take n slots
 slots_again number slots d zero whole few = refl
 slots_again number slots d (suc n) whole few =
     let bytes = spelled_slots number slots in

@@ -7,7 +7,7 @@ use Rattle.std.proofs.lemmas.List.{get_or-take, get_or-drop}
 use Rattle.object_graph.specs.declared.limits.TheConstants.{MOST_PAGES}
 use Rattle.object_graph.specs.declared.names.TheConstants.{OBJECT_FIELDS}
 use Rattle.object_graph.specs.declared.sizes.TheConstants.{SLOTS_PER_PAGE}
-use Rattle.page_image.specs.Fields.{Field, first_wrong, header_fields, slot_fields, is_used, is_reference, is_name_number, number_at, byte_at, zeros}
+use Rattle.page_image.specs.Fields.{Field, first_wrong, header_fields, slot_fields, says_in_use, is_reference, is_name_number, number_in_bytes, byte_at, zeros}
 use Rattle.page_image.proofs.Tables.{first_wrong-after, one_more_zero}
 use Rattle.page_image.proofs.Right.{AreRight}
 
@@ -31,7 +31,7 @@ zero_sum_8 a b c d e f g h is = (omega (arith, is), (omega (arith, is), (omega (
 in_part : (bytes : List ℕ) (at n i : ℕ) → i < n → slice_index (take n (drop at bytes)) i ≡ 0 → byte_at bytes (at + i) ≡ 0
 in_part bytes at n i among is = sym (get_or-take n (drop at bytes) i 0 among ∙ get_or-drop at bytes i 0) ∙ is
 
-pub zero_2 : (bytes : List ℕ) (at i : ℕ) → number_at w16 bytes at ≡ 0 → i < 2 → byte_at bytes (at + i) ≡ 0
+pub zero_2 : (bytes : List ℕ) (at i : ℕ) → number_in_bytes w16 bytes at ≡ 0 → i < 2 → byte_at bytes (at + i) ≡ 0
 zero_2 bytes at i is among = in_part bytes at 2 i among (each i among)
   where
     each : (i : ℕ) → i < 2 → slice_index (take 2 (drop at bytes)) i ≡ 0
@@ -39,7 +39,7 @@ zero_2 bytes at i is among = in_part bytes at 2 i among (each i among)
     each (suc zero) among = (zero_sum_2 _ _ is).1
     each (suc (suc i)) among = absurd (omega (arith, among))
 
-pub zero_4 : (bytes : List ℕ) (at i : ℕ) → number_at w32 bytes at ≡ 0 → i < 4 → byte_at bytes (at + i) ≡ 0
+pub zero_4 : (bytes : List ℕ) (at i : ℕ) → number_in_bytes w32 bytes at ≡ 0 → i < 4 → byte_at bytes (at + i) ≡ 0
 zero_4 bytes at i is among = in_part bytes at 4 i among (each i among)
   where
     each : (i : ℕ) → i < 4 → slice_index (take 4 (drop at bytes)) i ≡ 0
@@ -49,7 +49,7 @@ zero_4 bytes at i is among = in_part bytes at 4 i among (each i among)
     each (suc (suc (suc zero))) among = (zero_sum_4 _ _ _ _ is).1.1.1
     each (suc (suc (suc (suc i)))) among = absurd (omega (arith, among))
 
-pub zero_8 : (bytes : List ℕ) (at i : ℕ) → number_at w64 bytes at ≡ 0 → i < 8 → byte_at bytes (at + i) ≡ 0
+pub zero_8 : (bytes : List ℕ) (at i : ℕ) → number_in_bytes w64 bytes at ≡ 0 → i < 8 → byte_at bytes (at + i) ≡ 0
 zero_8 bytes at i is among = in_part bytes at 8 i among (each i among)
   where
     each : (i : ℕ) → i < 8 → slice_index (take 8 (drop at bytes)) i ≡ 0
@@ -71,16 +71,16 @@ zeros_are bytes from (suc n) are =
     subst (λ (k : ℕ). first_wrong (zeros bytes from k) ≡ None) next (one_more_zero bytes from n (zeros_are bytes from n (λ i among. are i (omega (arith, among)))) (are n (omega arith)))
 
 -- a slot without an object, and one with an object
-pub free_is : (bytes : List ℕ) → byte_at bytes 0 ≡ 0 → byte_at bytes 1 ≡ 0 → number_at w32 bytes 4 ≡ 0 → ((i : ℕ) → i < 1 + OBJECT_FIELDS → number_at w64 bytes (8 + 8 * i) ≡ 0) → first_wrong (slot_fields bytes) ≡ None
+pub free_is : (bytes : List ℕ) → byte_at bytes 0 ≡ 0 → byte_at bytes 1 ≡ 0 → number_in_bytes w32 bytes 4 ≡ 0 → ((i : ℕ) → i < 1 + OBJECT_FIELDS → number_in_bytes w64 bytes (8 + 8 * i) ≡ 0) → first_wrong (slot_fields bytes) ≡ None
 free_is bytes state one four words =
-    let free : is_used bytes ≡ false = ne_eqb (byte_at bytes 0) 1 (λ e. omega (arith, e, state)) in
-    let reference : (n : ℕ) → n ≡ 0 → is_reference (is_used bytes) n ≡ true = λ n none. or_left (n == 0) (is_used bytes && is_name_number n) (eq-eqb n 0 none) in
+    let free : says_in_use bytes ≡ false = ne_eqb (byte_at bytes 0) 1 (λ e. omega (arith, e, state)) in
+    let reference : (n : ℕ) → n ≡ 0 → is_reference (says_in_use bytes) n ≡ true = λ n none. or_left (n == 0) (says_in_use bytes && is_name_number n) (eq-eqb n 0 none) in
     none_wrong (slot_fields bytes) (
       le-leb (byte_at bytes 0) 1 (omega (arith, state)),
       (
         eq-eqb (byte_at bytes 1) 0 one,
         (
-          or_left (not (is_used bytes)) (nat_le 1 (number_at w16 bytes 2)) (ap not free),
+          or_left (not (says_in_use bytes)) (nat_le 1 (number_in_bytes w16 bytes 2)) (ap not free),
           (
             eq-eqb (byte_at bytes 4) 0 (zero_4 bytes 4 0 four (omega arith)),
             (
@@ -90,14 +90,14 @@ free_is bytes state one four words =
                 (
                   eq-eqb (byte_at bytes 7) 0 (zero_4 bytes 4 3 four (omega arith)),
                   (
-                    or_right (is_used bytes) (number_at w64 bytes 8 == 0) (eq-eqb (number_at w64 bytes 8) 0 (words 0 (omega arith))),
+                    or_right (says_in_use bytes) (number_in_bytes w64 bytes 8 == 0) (eq-eqb (number_in_bytes w64 bytes 8) 0 (words 0 (omega arith))),
                     (
-                      reference (number_at w64 bytes 16) (words 1 (omega arith)),
+                      reference (number_in_bytes w64 bytes 16) (words 1 (omega arith)),
                       (
-                        reference (number_at w64 bytes 24) (words 2 (omega arith)),
+                        reference (number_in_bytes w64 bytes 24) (words 2 (omega arith)),
                         (
-                          reference (number_at w64 bytes 32) (words 3 (omega arith)),
-                          (reference (number_at w64 bytes 40) (words 4 (omega arith)), tt),
+                          reference (number_in_bytes w64 bytes 32) (words 3 (omega arith)),
+                          (reference (number_in_bytes w64 bytes 40) (words 4 (omega arith)), tt),
                         ),
                       ),
                     ),
@@ -110,16 +110,16 @@ free_is bytes state one four words =
       ),
     )
 
-pub used_is : (bytes : List ℕ) → byte_at bytes 0 ≡ 1 → byte_at bytes 1 ≡ 0 → number_at w32 bytes 4 ≡ 0 → 1 ≤ number_at w16 bytes 2 → ((i : ℕ) → i < OBJECT_FIELDS → is_reference true (number_at w64 bytes (16 + 8 * i)) ≡ true) → first_wrong (slot_fields bytes) ≡ None
+pub used_is : (bytes : List ℕ) → byte_at bytes 0 ≡ 1 → byte_at bytes 1 ≡ 0 → number_in_bytes w32 bytes 4 ≡ 0 → 1 ≤ number_in_bytes w16 bytes 2 → ((i : ℕ) → i < OBJECT_FIELDS → is_reference true (number_in_bytes w64 bytes (16 + 8 * i)) ≡ true) → first_wrong (slot_fields bytes) ≡ None
 used_is bytes state one four some are =
-    let used : is_used bytes ≡ true = eq-eqb (byte_at bytes 0) 1 state in
-    let reference : (n : ℕ) → is_reference true n ≡ true → is_reference (is_used bytes) n ≡ true = λ n is. subst (λ (b : Bool). is_reference b n ≡ true) (sym used) is in
+    let used : says_in_use bytes ≡ true = eq-eqb (byte_at bytes 0) 1 state in
+    let reference : (n : ℕ) → is_reference true n ≡ true → is_reference (says_in_use bytes) n ≡ true = λ n is. subst (λ (b : Bool). is_reference b n ≡ true) (sym used) is in
     none_wrong (slot_fields bytes) (
       le-leb (byte_at bytes 0) 1 (omega (arith, state)),
       (
         eq-eqb (byte_at bytes 1) 0 one,
         (
-          or_right (not (is_used bytes)) (nat_le 1 (number_at w16 bytes 2)) (le-leb 1 (number_at w16 bytes 2) some),
+          or_right (not (says_in_use bytes)) (nat_le 1 (number_in_bytes w16 bytes 2)) (le-leb 1 (number_in_bytes w16 bytes 2) some),
           (
             eq-eqb (byte_at bytes 4) 0 (zero_4 bytes 4 0 four (omega arith)),
             (
@@ -129,14 +129,14 @@ used_is bytes state one four some are =
                 (
                   eq-eqb (byte_at bytes 7) 0 (zero_4 bytes 4 3 four (omega arith)),
                   (
-                    or_left (is_used bytes) (number_at w64 bytes 8 == 0) used,
+                    or_left (says_in_use bytes) (number_in_bytes w64 bytes 8 == 0) used,
                     (
-                      reference (number_at w64 bytes 16) (are 0 (omega arith)),
+                      reference (number_in_bytes w64 bytes 16) (are 0 (omega arith)),
                       (
-                        reference (number_at w64 bytes 24) (are 1 (omega arith)),
+                        reference (number_in_bytes w64 bytes 24) (are 1 (omega arith)),
                         (
-                          reference (number_at w64 bytes 32) (are 2 (omega arith)),
-                          (reference (number_at w64 bytes 40) (are 3 (omega arith)), tt),
+                          reference (number_in_bytes w64 bytes 32) (are 2 (omega arith)),
+                          (reference (number_in_bytes w64 bytes 40) (are 3 (omega arith)), tt),
                         ),
                       ),
                     ),
@@ -151,9 +151,9 @@ used_is bytes state one four some are =
 
 -- a header before zeros
 abbrev front : List ℕ → List Field
-front bytes = (0, number_at w32 bytes 0 == 1129334577) ∷ (4, nat_lt (number_at w32 bytes 4) MOST_PAGES) ∷ (8, byte_at bytes 8 == OBJECT_FIELDS) ∷ (9, byte_at bytes 9 == SLOTS_PER_PAGE) ∷ []
+front bytes = (0, number_in_bytes w32 bytes 0 == 1129334577) ∷ (4, nat_lt (number_in_bytes w32 bytes 4) MOST_PAGES) ∷ (8, byte_at bytes 8 == OBJECT_FIELDS) ∷ (9, byte_at bytes 9 == SLOTS_PER_PAGE) ∷ []
 
-header_zero : (bytes : List ℕ) → number_at w16 bytes 10 ≡ 0 → number_at w32 bytes 12 ≡ 0 → ((i : ℕ) → i < 6 → number_at w64 bytes (16 + 8 * i) ≡ 0) → (i : ℕ) → i < 54 → byte_at bytes (10 + i) ≡ 0
+header_zero : (bytes : List ℕ) → number_in_bytes w16 bytes 10 ≡ 0 → number_in_bytes w32 bytes 12 ≡ 0 → ((i : ℕ) → i < 6 → number_in_bytes w64 bytes (16 + 8 * i) ≡ 0) → (i : ℕ) → i < 54 → byte_at bytes (10 + i) ≡ 0
 header_zero bytes two four words i among =
     elim (cases_lt i 2) [
       | inl low ↦ zero_2 bytes 10 i two low
@@ -164,12 +164,12 @@ header_zero bytes two four words i among =
           ]
     ]
 
-pub header_is : (bytes : List ℕ) → number_at w32 bytes 0 ≡ 1129334577 → number_at w32 bytes 4 < MOST_PAGES → byte_at bytes 8 ≡ OBJECT_FIELDS → byte_at bytes 9 ≡ SLOTS_PER_PAGE
-    → number_at w16 bytes 10 ≡ 0 → number_at w32 bytes 12 ≡ 0 → ((i : ℕ) → i < 6 → number_at w64 bytes (16 + 8 * i) ≡ 0) → first_wrong (header_fields bytes) ≡ None
+pub header_is : (bytes : List ℕ) → number_in_bytes w32 bytes 0 ≡ 1129334577 → number_in_bytes w32 bytes 4 < MOST_PAGES → byte_at bytes 8 ≡ OBJECT_FIELDS → byte_at bytes 9 ≡ SLOTS_PER_PAGE
+    → number_in_bytes w16 bytes 10 ≡ 0 → number_in_bytes w32 bytes 12 ≡ 0 → ((i : ℕ) → i < 6 → number_in_bytes w64 bytes (16 + 8 * i) ≡ 0) → first_wrong (header_fields bytes) ≡ None
 header_is bytes mark number fields slots two four words =
     let right : first_wrong (front bytes) ≡ None =
     none_wrong (front bytes) (
-      eq-eqb (number_at w32 bytes 0) 1129334577 mark,
-      (lt-ltb (number_at w32 bytes 4) MOST_PAGES number, (eq-eqb (byte_at bytes 8) OBJECT_FIELDS fields, (eq-eqb (byte_at bytes 9) SLOTS_PER_PAGE slots, tt))),
+      eq-eqb (number_in_bytes w32 bytes 0) 1129334577 mark,
+      (lt-ltb (number_in_bytes w32 bytes 4) MOST_PAGES number, (eq-eqb (byte_at bytes 8) OBJECT_FIELDS fields, (eq-eqb (byte_at bytes 9) SLOTS_PER_PAGE slots, tt))),
     ) in
     first_wrong-after (front bytes) (zeros bytes 10 54) right ∙ zeros_are bytes 10 54 (header_zero bytes two four words)

@@ -13,10 +13,10 @@ use Rattle.object_graph.specs.Slots.{below}
 use Rattle.object_graph.specs.declared.limits.TheConstants.{MOST_PAGES, LAST_GENERATION}
 use Rattle.object_graph.specs.declared.names.TheConstants.{OBJECT_FIELDS}
 use Rattle.object_graph.specs.declared.sizes.TheConstants.{SLOTS_PER_PAGE}
-use Rattle.page_image.specs.Slots.{IsWhole, IsReference, fresh_slot, taken, freed, with_number, with_ref, has_room}
+use Rattle.page_image.specs.Slots.{IsWholeSlot, IsReference, fresh_slot, taken, freed, slot_with_number, slot_with_ref, has_room}
 use Rattle.page_image.specs.Pages.{PageParts, IsPage, IsFull, IsFirstWithRoom, slot_at, with_slot, empty_page}
 use Rattle.page_image.specs.Spelling.{reference_number, state_byte, slot_bytes, header_bytes, page_bytes, AreBytes}
-use Rattle.page_image.specs.Fields.{first_wrong, header_fields, slot_fields, fields_of_slot, slot_of, slot_piece, slot_start, page_of, page_at, page_fields, is_used}
+use Rattle.page_image.specs.Fields.{first_wrong, header_fields, slot_fields, fields_of_slot, slot_of, slot_piece, slot_start, page_of, page_at, page_fields, says_in_use}
 use Rattle.page_image.specs.Images.{page_said, IsImage, overwritten}
 use Rattle.page_image.proofs.Tables.{right_at, slot_right-back, page_at-read, first_wrong-front, first_wrong-back}
 use Rattle.page_image.proofs.Right.{slot_right, slot_fits, header_number}
@@ -51,11 +51,11 @@ said_count bytes = ap (λ p. length p.slots) (said_is bytes)
 pub said_past : (bytes : List ℕ) (n : ℕ) → SLOTS_PER_PAGE ≤ n → slot_at (page_said bytes) n ≡ fresh_slot
 said_past bytes n past = get_or_past (page_said bytes).slots n fresh_slot (let count = said_count bytes in omega (arith, count, past))
 
-pub whole_said : (bytes : List ℕ) (n : ℕ) → IsImage bytes → n < SLOTS_PER_PAGE → IsWhole (slot_at (page_said bytes) n)
+pub whole_said : (bytes : List ℕ) (n : ℕ) → IsImage bytes → n < SLOTS_PER_PAGE → IsWholeSlot (slot_at (page_said bytes) n)
 whole_said bytes n is among = whole_at (page_said bytes).slots n fresh_slot is.page.slots (let count = said_count bytes in omega (arith, count, among))
 
-pub whole_piece : (bytes : List ℕ) (n : ℕ) → IsImage bytes → n < SLOTS_PER_PAGE → IsWhole (slot_of (slot_piece bytes n))
-whole_piece bytes n is among = subst IsWhole (said_slot bytes n among) (whole_said bytes n is among)
+pub whole_piece : (bytes : List ℕ) (n : ℕ) → IsImage bytes → n < SLOTS_PER_PAGE → IsWholeSlot (slot_of (slot_piece bytes n))
+whole_piece bytes n is among = subst IsWholeSlot (said_slot bytes n among) (whole_said bytes n is among)
 
 -- a page that is spelled is said
 pub record IsSaid (bytes : List ℕ) (p : PageParts) : Type 0 where
@@ -84,25 +84,25 @@ sum_8 : (a b c d e f g h : ℕ) → a < 256 → b < 256 → c < 256 → d < 256 
     → a * 72057594037927936 + b * 281474976710656 + c * 1099511627776 + d * 4294967296 + e * 16777216 + f * 65536 + g * 256 + h < 18446744073709551616
 sum_8 a b c d e f g h fa fb fc fd fe ff fg fh = omega (arith, fa, fb, fc, fd, fe, ff, fg, fh)
 
-piece_whole : (bytes : List ℕ) → length bytes ≡ 48 → AreBytes bytes → first_wrong (slot_fields bytes) ≡ None → IsWhole (slot_of bytes)
+piece_whole : (bytes : List ℕ) → length bytes ≡ 48 → AreBytes bytes → first_wrong (slot_fields bytes) ≡ None → IsWholeSlot (slot_of bytes)
 piece_whole bytes long are is =
     let right = slot_right bytes is in
     let two : AreBytes (part bytes 2 2) = part_bytes bytes 2 2 (omega (arith, long)) are in
     let eight : AreBytes (part bytes 8 8) = part_bytes bytes 8 8 (omega (arith, long)) are in
     record {
-      slot = slot_fits (is_used bytes) _ _ _ _ _ _ right.generation right.number right.references.first right.references.second right.references.third right.references.fourth;
+      slot = slot_fits (says_in_use bytes) _ _ _ _ _ _ right.generation right.number right.references.first right.references.second right.references.third right.references.fourth;
       generation = sum_2 _ _ (two 0) (two 1);
       number = sum_8 _ _ _ _ _ _ _ _ (eight 0) (eight 1) (eight 2) (eight 3) (eight 4) (eight 5) (eight 6) (eight 7);
     }
 
 all_whole : (bytes : List ℕ) (n : ℕ) → 64 + 48 * n ≤ length bytes → AreBytes bytes → ((k : ℕ) → k < n → first_wrong (slot_fields (slot_piece bytes k)) ≡ None)
-    → AllByRecursion IsWhole (map (λ (k : ℕ). slot_of (slot_piece bytes k)) (below n))
+    → AllByRecursion IsWholeSlot (map (λ (k : ℕ). slot_of (slot_piece bytes k)) (below n))
 all_whole bytes zero within are right = tt
 all_whole bytes (suc n) within are right =
     let read : ℕ → SlotParts = λ k. slot_of (slot_piece bytes k) in
     let here : 64 + 48 * n + 48 ≤ length bytes = omega (arith, within) in
-    subst (AllByRecursion IsWhole) (sym (map-append read (below n) (n ∷ [])))
-    (all_more IsWhole (map read (below n)) (read n) (all_whole bytes n (omega (arith, within)) are (λ k among. right k (omega (arith, among))))
+    subst (AllByRecursion IsWholeSlot) (sym (map-append read (below n) (n ∷ [])))
+    (all_more IsWholeSlot (map read (below n)) (read n) (all_whole bytes n (omega (arith, within)) are (λ k among. right k (omega (arith, among))))
     (piece_whole (slot_piece bytes n) (length-part bytes (slot_start n) 48 here) (part_bytes bytes (slot_start n) 48 here are) (right n (omega arith))))
 
 pub right_image : (bytes : List ℕ) → length bytes ≡ 1024 → AreBytes bytes → first_wrong (page_fields bytes) ≡ None → IsImage bytes
@@ -128,7 +128,7 @@ over_between front piece rest new k fits =
     ∙ ap (λ l. front ++ l) (ap (λ l. take k piece ++ l) (sym (append_assoc new (drop (k + length new) piece) rest)) ∙ sym (append_assoc (take k piece) (new ++ drop (k + length new) piece) rest)))
 
 -- a slot overwritten among the slots of a page
-over_slots : (slots : List SlotParts) (front new : List ℕ) (n k at : ℕ) (d changed : SlotParts) → AllByRecursion IsWhole slots → n < length slots → at ≡ length front + 48 * n + k → k + length new ≤ 48
+over_slots : (slots : List SlotParts) (front new : List ℕ) (n k at : ℕ) (d changed : SlotParts) → AllByRecursion IsWholeSlot slots → n < length slots → at ≡ length front + 48 * n + k → k + length new ≤ 48
     → overwritten (slot_bytes (get_or slots n d)) k new ≡ slot_bytes changed → overwritten (front ++ flat_map slot_bytes slots) at new ≡ front ++ flat_map slot_bytes (slice_set slots n changed)
 over_slots [] front new n k at d changed whole among is fits over = absurd (omega (arith, among))
 over_slots (s ∷ slots) front new zero k at d changed whole among is fits over =
@@ -151,24 +151,24 @@ all_set P (y ∷ xs) zero x are is = (is, are.1)
 all_set P (y ∷ xs) (suc n) x are is = (are.0, all_set P xs n x are.1 is)
 
 -- a page with one slot overwritten
-pub slot_written : (bytes new : List ℕ) (n k : ℕ) (changed : SlotParts) → IsImage bytes → n < SLOTS_PER_PAGE → k + length new ≤ 48 → IsWhole changed → overwritten (slot_bytes (slot_at (page_said bytes) n)) k new ≡ slot_bytes changed
+pub slot_written : (bytes new : List ℕ) (n k : ℕ) (changed : SlotParts) → IsImage bytes → n < SLOTS_PER_PAGE → k + length new ≤ 48 → IsWholeSlot changed → overwritten (slot_bytes (slot_at (page_said bytes) n)) k new ≡ slot_bytes changed
     → IsSaid (overwritten bytes (slot_start n + k) new) (record { number = (page_said bytes).number; slots = slice_set (page_said bytes).slots n changed })
 slot_written bytes new n k changed is among fits whole over =
     let page = page_said bytes in
     let count = said_count bytes in
     image_of (overwritten bytes (slot_start n + k) new) (record { number = page.number; slots = slice_set page.slots n changed })
-    (record { number = is.page.number; count = length-set page.slots n changed ∙ count; slots = all_set IsWhole page.slots n changed is.page.slots whole })
+    (record { number = is.page.number; count = length-set page.slots n changed ∙ count; slots = all_set IsWholeSlot page.slots n changed is.page.slots whole })
     (ap (λ b. overwritten b (slot_start n + k) new) (sym is.spelled)
     ∙ over_slots page.slots (header_bytes page.number) new n k (slot_start n + k) fresh_slot changed is.page.slots (omega (arith, count, among)) refl fits over)
 
 -- a number, a reference and a slot without them
-pub number_over : (s : SlotParts) (number : ℕ) → overwritten (slot_bytes s) 8 (to_be_bytes w64 number) ≡ slot_bytes (with_number number s)
+pub number_over : (s : SlotParts) (number : ℕ) → overwritten (slot_bytes s) 8 (to_be_bytes w64 number) ≡ slot_bytes (slot_with_number number s)
 number_over s number = refl
 
-pub number_whole : (s : SlotParts) (number : ℕ) → IsWhole s → s.in_use ≡ true → number < 2 ^ 64 → IsWhole (with_number number s)
+pub number_whole : (s : SlotParts) (number : ℕ) → IsWholeSlot s → s.in_use ≡ true → number < 2 ^ 64 → IsWholeSlot (slot_with_number number s)
 number_whole s number is used small = record { slot = record { used = is.slot.used; free = λ free. absurd (cc (sym used ∙ free)); count = is.slot.count; refs = is.slot.refs }; generation = is.generation; number = small }
 
-pub reference_over : (s : SlotParts) (field : ℕ) (target : Option NameParts) → length s.refs ≡ OBJECT_FIELDS → field < OBJECT_FIELDS → overwritten (slot_bytes s) (16 + 8 * field) (to_be_bytes w64 (reference_number target)) ≡ slot_bytes (with_ref field target s)
+pub reference_over : (s : SlotParts) (field : ℕ) (target : Option NameParts) → length s.refs ≡ OBJECT_FIELDS → field < OBJECT_FIELDS → overwritten (slot_bytes s) (16 + 8 * field) (to_be_bytes w64 (reference_number target)) ≡ slot_bytes (slot_with_ref field target s)
 reference_over s field target count among = by_refs s.in_use s.generation s.number s.refs field count among
   where
     by_refs : (in_use : Bool) (generation number : ℕ) (refs : List (Option NameParts)) (field : ℕ) → length refs ≡ OBJECT_FIELDS → field < OBJECT_FIELDS
@@ -185,23 +185,23 @@ reference_over s field target count among = by_refs s.in_use s.generation s.numb
     by_refs in_use generation number (a ∷ b ∷ c ∷ d ∷ []) (suc (suc (suc (suc field)))) n among = absurd (omega (arith, among))
     by_refs in_use generation number (a ∷ b ∷ c ∷ d ∷ e ∷ more) field n among = absurd (omega (arith, n))
 
-pub reference_whole : (s : SlotParts) (field : ℕ) (target : Option NameParts) → IsWhole s → s.in_use ≡ true → IsReference target → IsWhole (with_ref field target s)
+pub reference_whole : (s : SlotParts) (field : ℕ) (target : Option NameParts) → IsWholeSlot s → s.in_use ≡ true → IsReference target → IsWholeSlot (slot_with_ref field target s)
 reference_whole s field target is used fits = record {
   slot = record { used = is.slot.used; free = λ free. absurd (cc (sym used ∙ free)); count = length-set s.refs field target ∙ is.slot.count; refs = all_set IsReference s.refs field target is.slot.refs fits };
   generation = is.generation;
   number = is.number;
 }
 
-pub whole_over : (s changed : SlotParts) → IsWhole s → IsWhole changed → overwritten (slot_bytes s) 0 (slot_bytes changed) ≡ slot_bytes changed
+pub whole_over : (s changed : SlotParts) → IsWholeSlot s → IsWholeSlot changed → overwritten (slot_bytes s) 0 (slot_bytes changed) ≡ slot_bytes changed
 whole_over s changed is whole =
     let old = length-slot_bytes s is.slot.count in
     let new = length-slot_bytes changed whole.slot.count in
     ap (λ l. slot_bytes changed ++ l) (drop_all (0 + length (slot_bytes changed)) (slot_bytes s) (omega (arith, old, new))) ∙ append-nil (slot_bytes changed)
 
-pub freed_whole : (s : SlotParts) → IsWhole s → IsWhole (freed s)
+pub freed_whole : (s : SlotParts) → IsWholeSlot s → IsWholeSlot (freed s)
 freed_whole s is = record { slot = record { used = λ used. absurd (cc used); free = λ _. (refl, refl); count = refl; refs = (tt, (tt, (tt, (tt, tt)))) }; generation = is.generation; number = omega arith }
 
-pub taken_whole : (s : SlotParts) → s.generation < LAST_GENERATION → IsWhole (taken s)
+pub taken_whole : (s : SlotParts) → s.generation < LAST_GENERATION → IsWholeSlot (taken s)
 taken_whole s more = record { slot = record { used = λ _. omega arith; free = λ free. absurd (cc free); count = refl; refs = (tt, (tt, (tt, (tt, tt)))) }; generation = omega (arith, more); number = omega arith }
 
 -- a page without objects
@@ -212,7 +212,7 @@ empties (suc n) =
     let fresh : slot_bytes fresh_slot ≡ replicate 48 0 = refl in
     (λ i. fresh i ++ empties n i) ∙ (replicate-append-replicate 48 (48 * n) 0 ∙ ap (λ (k : ℕ). replicate k 0) next)
 
-all_fresh : (n : ℕ) → AllByRecursion IsWhole (replicate n fresh_slot)
+all_fresh : (n : ℕ) → AllByRecursion IsWholeSlot (replicate n fresh_slot)
 all_fresh zero = tt
 all_fresh (suc n) = (record { slot = record { used = λ used. absurd (cc used); free = λ _. (refl, refl); count = refl; refs = (tt, (tt, (tt, (tt, tt)))) }; generation = omega arith; number = omega arith }, all_fresh n)
 
@@ -227,32 +227,32 @@ pub view_slot : (bytes : List ℕ) (page : PageParts) (n : ℕ) → page_said by
 view_slot bytes page n is among = sym (said_slot bytes n among) ∙ ap (λ p. slot_at p n) is
 
 pub number_written : (bytes : List ℕ) (page : PageParts) (n number : ℕ) → IsImage bytes → page_said bytes ≡ page → n < length page.slots → (slot_at page n).in_use ≡ true → number < 2 ^ 64
-    → IsSaid (overwritten bytes (slot_start n + 8) (to_be_bytes w64 number)) (with_slot page n (with_number number))
+    → IsSaid (overwritten bytes (slot_start n + 8) (to_be_bytes w64 number)) (with_slot page n (slot_with_number number))
 number_written bytes page n number is view among used small =
-    subst (λ p. n < length p.slots → (slot_at p n).in_use ≡ true → IsSaid (overwritten bytes (slot_start n + 8) (to_be_bytes w64 number)) (with_slot p n (with_number number))) view
+    subst (λ p. n < length p.slots → (slot_at p n).in_use ≡ true → IsSaid (overwritten bytes (slot_start n + 8) (to_be_bytes w64 number)) (with_slot p n (slot_with_number number))) view
     (λ among used.
     let fewer = view_among bytes (page_said bytes) n refl among in
     let s = slot_at (page_said bytes) n in
-    slot_written bytes (to_be_bytes w64 number) n 8 (with_number number s) is fewer (omega arith) (number_whole s number (whole_said bytes n is fewer) used small) (number_over s number))
+    slot_written bytes (to_be_bytes w64 number) n 8 (slot_with_number number s) is fewer (omega arith) (number_whole s number (whole_said bytes n is fewer) used small) (number_over s number))
     among used
 
 pub reference_written : (bytes : List ℕ) (page : PageParts) (n field : ℕ) (target : Option NameParts) → IsImage bytes → page_said bytes ≡ page → n < length page.slots → (slot_at page n).in_use ≡ true → field < length (slot_at page n).refs → IsReference target
-    → IsSaid (overwritten bytes (slot_start n + (16 + 8 * field)) (to_be_bytes w64 (reference_number target))) (with_slot page n (with_ref field target))
+    → IsSaid (overwritten bytes (slot_start n + (16 + 8 * field)) (to_be_bytes w64 (reference_number target))) (with_slot page n (slot_with_ref field target))
 reference_written bytes page n field target is view among used there fits =
-    subst (λ p. n < length p.slots → (slot_at p n).in_use ≡ true → field < length (slot_at p n).refs → IsSaid (overwritten bytes (slot_start n + (16 + 8 * field)) (to_be_bytes w64 (reference_number target))) (with_slot p n (with_ref field target))) view
+    subst (λ p. n < length p.slots → (slot_at p n).in_use ≡ true → field < length (slot_at p n).refs → IsSaid (overwritten bytes (slot_start n + (16 + 8 * field)) (to_be_bytes w64 (reference_number target))) (with_slot p n (slot_with_ref field target))) view
     (λ among used there.
     let fewer = view_among bytes (page_said bytes) n refl among in
     let s = slot_at (page_said bytes) n in
     let whole = whole_said bytes n is fewer in
     let count = whole.slot.count in
     let low : field < OBJECT_FIELDS = omega (arith, count, there) in
-    slot_written bytes (to_be_bytes w64 (reference_number target)) n (16 + 8 * field) (with_ref field target s) is fewer (omega (arith, low)) (reference_whole s field target whole used fits) (reference_over s field target count low))
+    slot_written bytes (to_be_bytes w64 (reference_number target)) n (16 + 8 * field) (slot_with_ref field target s) is fewer (omega (arith, low)) (reference_whole s field target whole used fits) (reference_over s field target count low))
     among used there
 
-pub view_whole : (bytes : List ℕ) (page : PageParts) (n : ℕ) → IsImage bytes → page_said bytes ≡ page → n < length page.slots → IsWhole (slot_at page n)
-view_whole bytes page n is view among = subst (λ p. IsWhole (slot_at p n)) view (whole_said bytes n is (view_among bytes page n view among))
+pub view_whole : (bytes : List ℕ) (page : PageParts) (n : ℕ) → IsImage bytes → page_said bytes ≡ page → n < length page.slots → IsWholeSlot (slot_at page n)
+view_whole bytes page n is view among = subst (λ p. IsWholeSlot (slot_at p n)) view (whole_said bytes n is (view_among bytes page n view among))
 
-pub whole_written : (bytes : List ℕ) (page : PageParts) (n : ℕ) (changed : SlotParts) → IsImage bytes → page_said bytes ≡ page → n < length page.slots → IsWhole changed
+pub whole_written : (bytes : List ℕ) (page : PageParts) (n : ℕ) (changed : SlotParts) → IsImage bytes → page_said bytes ≡ page → n < length page.slots → IsWholeSlot changed
     → IsSaid (overwritten bytes (slot_start n) (slot_bytes changed)) (record { number = page.number; slots = slice_set page.slots n changed })
 whole_written bytes page n changed is view among whole =
     subst (λ p. n < length p.slots → IsSaid (overwritten bytes (slot_start n) (slot_bytes changed)) (record { number = p.number; slots = slice_set p.slots n changed })) view
@@ -306,7 +306,7 @@ pub room_left : (page : PageParts) (n : ℕ) → has_room (slot_at page n) ≡ t
 room_left page n room = ltb-true (slot_at page n).generation LAST_GENERATION (and_parts (not (slot_at page n).in_use) (nat_lt (slot_at page n).generation LAST_GENERATION) room).1
 
 -- a page after a slot was made bare
-pub bare_written : (bytes out : List ℕ) (page : PageParts) (n generation : ℕ) (in_use : Bool) (changed : SlotParts) → IsImage bytes → page_said bytes ≡ page → n < length page.slots → IsWhole changed
+pub bare_written : (bytes out : List ℕ) (page : PageParts) (n generation : ℕ) (in_use : Bool) (changed : SlotParts) → IsImage bytes → page_said bytes ≡ page → n < length page.slots → IsWholeSlot changed
     → record { in_use = in_use; generation = generation; number = 0; refs = replicate OBJECT_FIELDS None } ≡ changed
     → out ≡ overwritten bytes (slot_start n) (slot_bytes (record { in_use = in_use; generation = generation; number = 0; refs = replicate OBJECT_FIELDS None }))
     → IsSaid out (record { number = page.number; slots = slice_set page.slots n changed })

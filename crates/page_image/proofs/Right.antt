@@ -5,7 +5,7 @@ use Rattle.std.specs.Int.{w16, w32, w64}
 use Rattle.object_graph.specs.NameParts.{IsName}
 use Rattle.object_graph.specs.declared.limits.TheConstants.{MOST_PAGES, MOST_SLOTS}
 use Rattle.page_image.specs.Slots.{IsSlot, IsReference}
-use Rattle.page_image.specs.Fields.{Field, first_wrong, slot_fields, header_fields, is_used, is_reference, is_name_number, reference_of, name_of, number_at, byte_at}
+use Rattle.page_image.specs.Fields.{Field, first_wrong, slot_fields, header_fields, says_in_use, is_reference, is_name_number, reference_of, numbered_name, number_in_bytes, byte_at}
 
 -- every field of a table is right
 abbrev pub AreRight : List Field → Type 0
@@ -25,7 +25,7 @@ reference-widens false n is = elim (or_cases (n == 0) false is) [ inl none ↦ o
 pub reference-free : (n : ℕ) → is_reference false n ≡ true → reference_of n ≡ None
 reference-free n is = elim (or_cases (n == 0) false is) [ inl none ↦ rw none refl | inr wrong ↦ absurd (cc wrong) ]
 
-pub name_of-valid : (n : ℕ) → is_name_number n ≡ true → IsName (name_of n)
+pub name_of-valid : (n : ℕ) → is_name_number n ≡ true → IsName (numbered_name n)
 name_of-valid n is =
     let page = and_parts (nat_lt (n / 4294967296) MOST_PAGES) _ is in
     let rest = and_parts (nat_lt ((n / 65536) % 65536) MOST_SLOTS) _ page.1 in
@@ -36,7 +36,7 @@ name_of-valid n is =
       last = omega arith;
     }
 
-chosen : (b : Bool) (n : ℕ) → (b ≡ false → IsName (name_of n)) → IsReference (if b then None else Some (name_of n))
+chosen : (b : Bool) (n : ℕ) → (b ≡ false → IsName (numbered_name n)) → IsReference (if b then None else Some (numbered_name n))
 chosen true n valid = tt
 chosen false n valid = valid refl
 
@@ -45,21 +45,21 @@ reference-valid n is = chosen (n == 0) n (λ some. elim (or_cases (n == 0) (is_n
 
 -- the four references of a slot whose fields are right
 pub record AreReferences (bytes : List ℕ) : Type 0 where
-  pub first : is_reference (is_used bytes) (number_at w64 bytes 16) ≡ true
-  pub second : is_reference (is_used bytes) (number_at w64 bytes 24) ≡ true
-  pub third : is_reference (is_used bytes) (number_at w64 bytes 32) ≡ true
-  pub fourth : is_reference (is_used bytes) (number_at w64 bytes 40) ≡ true
+  pub first : is_reference (says_in_use bytes) (number_in_bytes w64 bytes 16) ≡ true
+  pub second : is_reference (says_in_use bytes) (number_in_bytes w64 bytes 24) ≡ true
+  pub third : is_reference (says_in_use bytes) (number_in_bytes w64 bytes 32) ≡ true
+  pub fourth : is_reference (says_in_use bytes) (number_in_bytes w64 bytes 40) ≡ true
 
 -- what is right of a slot, field by field
 pub record IsRight (bytes : List ℕ) : Type 0 where
   pub state : nat_le (byte_at bytes 0) 1 ≡ true
   pub zero_1 : (byte_at bytes 1 == 0) ≡ true
-  pub generation : (not (is_used bytes) || nat_le 1 (number_at w16 bytes 2)) ≡ true
+  pub generation : (not (says_in_use bytes) || nat_le 1 (number_in_bytes w16 bytes 2)) ≡ true
   pub zero_4 : (byte_at bytes 4 == 0) ≡ true
   pub zero_5 : (byte_at bytes 5 == 0) ≡ true
   pub zero_6 : (byte_at bytes 6 == 0) ≡ true
   pub zero_7 : (byte_at bytes 7 == 0) ≡ true
-  pub number : (is_used bytes || number_at w64 bytes 8 == 0) ≡ true
+  pub number : (says_in_use bytes || number_in_bytes w64 bytes 8 == 0) ≡ true
   pub references : AreReferences bytes
 
 pub slot_right : (bytes : List ℕ) → first_wrong (slot_fields bytes) ≡ None → IsRight bytes
@@ -99,5 +99,5 @@ slot_fits false generation number a b c d any none ra rb rc rd = record {
 }
 
 -- the page number of a right header
-pub header_number : (bytes : List ℕ) → first_wrong (header_fields bytes) ≡ None → number_at w32 bytes 4 < MOST_PAGES
-header_number bytes is = ltb-true (number_at w32 bytes 4) MOST_PAGES (all_right (header_fields bytes) is).1.0
+pub header_number : (bytes : List ℕ) → first_wrong (header_fields bytes) ≡ None → number_in_bytes w32 bytes 4 < MOST_PAGES
+header_number bytes is = ltb-true (number_in_bytes w32 bytes 4) MOST_PAGES (all_right (header_fields bytes) is).1.0

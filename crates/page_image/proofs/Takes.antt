@@ -13,7 +13,7 @@ use Rattle.object_graph.specs.declared.limits.TheConstants.{MOST_PAGES}
 use Rattle.object_graph.specs.declared.names.TheConstants.{OBJECT_FIELDS}
 use Rattle.object_graph.specs.declared.sizes.TheConstants.{SLOTS_PER_PAGE}
 use Rattle.page_image.specs.Spelling.{reference_number, state_byte, slot_bytes, header_bytes, page_bytes, AreBytes}
-use Rattle.page_image.specs.Fields.{Field, first_wrong, header_fields, slot_fields, slot_of, slot_piece, slot_start, number_at, byte_at, reference_of, zeros, page_of, fields_of_slot}
+use Rattle.page_image.specs.Fields.{Field, first_wrong, header_fields, slot_fields, slot_of, slot_piece, slot_start, number_in_bytes, byte_at, reference_of, zeros, page_of, fields_of_slot}
 use Rattle.page_image.proofs.Tables.{zeros-flat, zero_field, right_at, slot_right-back, first_wrong-back}
 use Rattle.page_image.proofs.Right.{all_right, slot_right}
 
@@ -32,13 +32,13 @@ part_bytes bytes at n within are i =
     ]
 
 -- a number is spelled by its bytes
-number_2 : (bytes : List ℕ) (at : ℕ) → at + 2 ≤ length bytes → AreBytes bytes → to_be_bytes w16 (number_at w16 bytes at) ≡ part bytes at 2
+number_2 : (bytes : List ℕ) (at : ℕ) → at + 2 ≤ length bytes → AreBytes bytes → to_be_bytes w16 (number_in_bytes w16 bytes at) ≡ part bytes at 2
 number_2 bytes at within are = be_bytes_2 (part bytes at 2) _ (length-part bytes at 2 within) (part_bytes bytes at 2 within are) refl
 
-number_4 : (bytes : List ℕ) (at : ℕ) → at + 4 ≤ length bytes → AreBytes bytes → to_be_bytes w32 (number_at w32 bytes at) ≡ part bytes at 4
+number_4 : (bytes : List ℕ) (at : ℕ) → at + 4 ≤ length bytes → AreBytes bytes → to_be_bytes w32 (number_in_bytes w32 bytes at) ≡ part bytes at 4
 number_4 bytes at within are = be_bytes_4 (part bytes at 4) _ (length-part bytes at 4 within) (part_bytes bytes at 4 within are) refl
 
-number_8 : (bytes : List ℕ) (at : ℕ) → at + 8 ≤ length bytes → AreBytes bytes → to_be_bytes w64 (number_at w64 bytes at) ≡ part bytes at 8
+number_8 : (bytes : List ℕ) (at : ℕ) → at + 8 ≤ length bytes → AreBytes bytes → to_be_bytes w64 (number_in_bytes w64 bytes at) ≡ part bytes at 8
 number_8 bytes at within are = be_bytes_8 (part bytes at 8) _ (length-part bytes at 8 within) (part_bytes bytes at 8 within are) refl
 
 -- one byte
@@ -71,8 +71,8 @@ reference_spelled n = by_zero (n == 0) (λ e. eqb-true n 0 e)
     by_zero true is = sym (is refl)
     by_zero false is = omega arith
 
-reference_8 : (bytes : List ℕ) (at : ℕ) → at + 8 ≤ length bytes → AreBytes bytes → to_be_bytes w64 (reference_number (reference_of (number_at w64 bytes at))) ≡ part bytes at 8
-reference_8 bytes at within are = ap (to_be_bytes w64) (reference_spelled (number_at w64 bytes at)) ∙ number_8 bytes at within are
+reference_8 : (bytes : List ℕ) (at : ℕ) → at + 8 ≤ length bytes → AreBytes bytes → to_be_bytes w64 (reference_number (reference_of (number_in_bytes w64 bytes at))) ≡ part bytes at 8
+reference_8 bytes at within are = ap (to_be_bytes w64) (reference_spelled (number_in_bytes w64 bytes at)) ∙ number_8 bytes at within are
 
 state_spelled : (b : ℕ) → nat_le b 1 ≡ true → state_byte (b == 1) ≡ b
 state_spelled zero small = refl
@@ -123,14 +123,14 @@ zeros_right : (bytes : List ℕ) → first_wrong (header_fields bytes) ≡ None 
 zeros_right bytes is = first_wrong-back (front bytes) (zeros bytes 10 54) is
   where
     front : List ℕ → List Field
-    front bytes = (0, number_at w32 bytes 0 == 1129334577) ∷ (4, nat_lt (number_at w32 bytes 4) MOST_PAGES) ∷ (8, byte_at bytes 8 == OBJECT_FIELDS) ∷ (9, byte_at bytes 9 == SLOTS_PER_PAGE) ∷ []
+    front bytes = (0, number_in_bytes w32 bytes 0 == 1129334577) ∷ (4, nat_lt (number_in_bytes w32 bytes 4) MOST_PAGES) ∷ (8, byte_at bytes 8 == OBJECT_FIELDS) ∷ (9, byte_at bytes 9 == SLOTS_PER_PAGE) ∷ []
 
 -- the bytes of a right header are spelled by the number that they say
-pub header_takes : (bytes : List ℕ) → length bytes ≡ 1024 → AreBytes bytes → first_wrong (header_fields bytes) ≡ None → part bytes 0 64 ≡ header_bytes (number_at w32 bytes 4)
+pub header_takes : (bytes : List ℕ) → length bytes ≡ 1024 → AreBytes bytes → first_wrong (header_fields bytes) ≡ None → part bytes 0 64 ≡ header_bytes (number_in_bytes w32 bytes 4)
 header_takes bytes long are is =
     let right = all_right (header_fields bytes) is in
     let one : (at : ℕ) (b : ℕ) → at < 1024 → (byte_at bytes at == b) ≡ true → part bytes at 1 ≡ b ∷ [] = λ at b within e. byte_1 bytes at (omega (arith, long, within)) ∙ ap (λ (b : ℕ). b ∷ []) (eqb-true (byte_at bytes at) b e) in
-    let mark : part bytes 0 4 ≡ to_be_bytes w32 1129334577 = sym (number_4 bytes 0 (omega (arith, long)) are) ∙ ap (to_be_bytes w32) (eqb-true (number_at w32 bytes 0) 1129334577 right.0) in
+    let mark : part bytes 0 4 ≡ to_be_bytes w32 1129334577 = sym (number_4 bytes 0 (omega (arith, long)) are) ∙ ap (to_be_bytes w32) (eqb-true (number_in_bytes w32 bytes 0) 1129334577 right.0) in
     let within : 10 + 54 ≤ length bytes = omega (arith, long) in
     let zeros_are = all_zero bytes 10 54 within (zeros_part bytes 10 54 within (zeros_right bytes is)) in
     more bytes 0 10 54 _ _

@@ -4,7 +4,7 @@ ghost use Rattle.std.specs.List.{flat_map};
 ghost use Rattle.std.specs.Int.{w64};
 ghost use Rattle.object_graph.specs.Slots.{below};
 ghost use Rattle.page_image.specs.Images.{slot_size};
-ghost use Rattle.page_image.specs.Fields.{number_at, is_reference, first_wrong, header_fields, slot_fields, fields_of_slot, page_fields};
+ghost use Rattle.page_image.specs.Fields.{number_in_bytes, is_reference, first_wrong, header_fields, slot_fields, fields_of_slot, page_fields};
 
 use crate::layout::{HEADER_SIZE, NUMBER, REFERENCE_SIZE, REFERENCES, fields, piece, slots};
 use crate::numbers::{u16_at, u32_at, u64_at};
@@ -24,7 +24,7 @@ pub(crate) fn is_reference_of(in_use: bool, number: u64) -> bool
 /// Whether so many words of 8 bytes are zero.
 fn are_zero(bytes: &[u8], from: usize, words: usize) -> bool
     requires within { from + 8 * words ≤ length bytes.now }
-    ensures { IsTrue result → (i : ℕ) → i < words → number_at w64 bytes.now (from + 8 * i) ≡ 0 }
+    ensures { IsTrue result → (i : ℕ) → i < words → number_in_bytes w64 bytes.now (from + 8 * i) ≡ 0 }
 {
     for i in 0..words {
         if u64_at(bytes, from + 8 * i) != 0 {
@@ -37,7 +37,7 @@ fn are_zero(bytes: &[u8], from: usize, words: usize) -> bool
 /// Whether so many references of an object are none or names.
 fn are_references(bytes: &[u8], count: usize) -> bool
     requires within { 16 + 8 * count ≤ length bytes.now }
-    ensures { IsTrue result → (i : ℕ) → i < count → is_reference true (number_at w64 bytes.now (16 + 8 * i)) ≡ true }
+    ensures { IsTrue result → (i : ℕ) → i < count → is_reference true (number_in_bytes w64 bytes.now (16 + 8 * i)) ≡ true }
 {
     for i in 0..count {
         if !is_reference_of(true, u64_at(bytes, REFERENCES + REFERENCE_SIZE * i)) {

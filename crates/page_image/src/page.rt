@@ -2,11 +2,11 @@
 ghost use Rattle.std.specs.Prelude.{◌≡◌, ◌<◌, ℕ, true, false, length, IfOk, IfSome, IfNone, OnErr, IfErr, Ok, Err, IsTrue, slice_index_or, ◌&&◌, ◌==◌, nat_lt};
 ghost use Rattle.object_graph.specs.Slots.{has_slot};
 ghost use Rattle.std.specs.List.{AllByRecursion};
-ghost use Rattle.page_image.specs.Slots.{IsWhole, fresh_slot, taken, freed, with_number, with_ref, has_room};
+ghost use Rattle.page_image.specs.Slots.{IsWholeSlot, fresh_slot, taken, freed, slot_with_number, slot_with_ref, has_room};
 ghost use Rattle.page_image.specs.Fields.{page_at};
 ghost use Rattle.page_image.specs.Images.{page_said};
 ghost use Rattle.page_image.specs.Spelling.{page_bytes};
-ghost use Rattle.page_image.specs.Pages.{PageParts, IsPage, empty_page, slot_at, with_slot, object_at, object_of, has_name, slot_freed, IsFull, IsFirstWithRoom, IsNextName};
+ghost use Rattle.page_image.specs.Pages.{PageParts, IsPage, empty_page, slot_at, with_slot, object_at, object_of, page_has_name, slot_freed, IsFull, IsFirstWithRoom, IsNextName};
 
 use crate::layout::{fields, piece, slots};
 use crate::numbers::u32_at;
@@ -128,7 +128,7 @@ impl Page {
 
     /// Whether an object of this name is in use on the page.
     pub fn has(&self, name: Name) -> bool
-        ensures { result ≡ has_name self.now name }
+        ensures { result ≡ page_has_name self.now name }
     {
         name.page() == self.number() && holds_at(&self.bytes, name.slot(), name.generation())
     }
@@ -165,7 +165,7 @@ impl Page {
     pub fn set_number(&mut self, slot: u16, number: u64)
         requires within { slot < length self.old.slots }
         requires used { (slot_at self.old slot).in_use ≡ true }
-        ensures { self.new ≡ with_slot self.old slot (with_number number) }
+        ensures { self.new ≡ with_slot self.old slot (slot_with_number number) }
     {
         put_number(&mut self.bytes, slot, number);
     }
@@ -175,7 +175,7 @@ impl Page {
         requires within { slot < length self.old.slots }
         requires used { (slot_at self.old slot).in_use ≡ true }
         requires field { field < length (slot_at self.old slot).refs }
-        ensures { self.new ≡ with_slot self.old slot (with_ref field target) }
+        ensures { self.new ≡ with_slot self.old slot (slot_with_ref field target) }
     {
         put_reference(&mut self.bytes, slot, field as usize, &target);
     }

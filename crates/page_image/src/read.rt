@@ -2,9 +2,9 @@
 ghost use Rattle.std.specs.Prelude.{◌≡◌, ◌<◌, ◌≤◌, length};
 ghost use Rattle.object_graph.specs.NameParts.{IsName};
 ghost use Rattle.page_image.specs.Images.{slot_size};
-ghost use Rattle.page_image.specs.Slots.{IsWhole, IsReference, has_room};
+ghost use Rattle.page_image.specs.Slots.{IsWholeSlot, IsReference, has_room};
 ghost use Rattle.page_image.specs.Pages.{object_of};
-ghost use Rattle.page_image.specs.Fields.{slot_of, name_of, reference_of};
+ghost use Rattle.page_image.specs.Fields.{slot_of, numbered_name, reference_of};
 
 use crate::layout::{NUMBER, REFERENCE_SIZE, REFERENCES};
 use crate::numbers::{u16_at, u64_at};
@@ -36,8 +36,8 @@ pub(crate) fn has_room(slot: &[u8]) -> bool
 
 /// The name with this number.
 fn name_at(number: u64) -> Name
-    requires { IsName (name_of number) }
-    ensures { result ≡ name_of number }
+    requires { IsName (numbered_name number) }
+    ensures { result ≡ numbered_name number }
 {
     Name::at(
         (number >> 32) as u32,
@@ -65,7 +65,7 @@ pub(crate) fn object_in(page: u32, at: u16, slot: &[u8]) -> Option<Object>
     requires page { page < MOST_PAGES }
     requires at { at < MOST_SLOTS }
     requires long { length slot.now ≡ slot_size }
-    requires whole { IsWhole (slot_of slot.now) }
+    requires whole { IsWholeSlot (slot_of slot.now) }
     ensures { result ≡ object_of page at (slot_of slot.now) }
 {
     if !in_use(slot) {

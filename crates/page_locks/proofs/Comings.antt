@@ -11,7 +11,7 @@ use Rattle.object_graph.specs.declared.limits.TheConstants.{MOST_OPEN}
 use Rattle.page_locks.specs.Sets.{has_bit, in_set, HasRoom, is_among}
 use Rattle.page_locks.specs.Words.{word_of, is_held}
 use Rattle.page_locks.specs.Holding.{KeepsApart, HaveSameLocks, Releases}
-use Rattle.page_locks.specs.Places.{free_seat, seat_at, number_at, may_hold, free_or_not, count_free, locks_of, numbers_in, AreSeated, AreCovered, IsTable}
+use Rattle.page_locks.specs.Places.{free_seat, seat_at, transaction_at, may_hold, free_or_not, count_free, locks_of, numbers_in, AreSeated, AreCovered, IsLockTable}
 use Rattle.page_locks.specs.declared.admitted.Admitted.{Admitted}
 use Rattle.page_locks.specs.declared.holders.Holders.{Holders}
 use Rattle.page_locks.specs.declared.holders.Mode.{Mode}
@@ -40,7 +40,7 @@ all_free (s ∷ ss) all =
     let one : free_or_not s.txn ≡ 1 = ap free_or_not all.0 in
     sum_by-cons (λ (x : Seat). free_or_not x.txn) s ss ∙ omega (arith, rest, one)
 
-fresh_number : (pages : ℕ) (seats : List Seat) (q : ℕ) → AreFresh pages seats → number_at seats q ≡ None
+fresh_number : (pages : ℕ) (seats : List Seat) (q : ℕ) → AreFresh pages seats → transaction_at seats q ≡ None
 fresh_number pages seats q f = elim (cases_Bool (nat_lt q (length seats))) [
   | inl lt ↦ f.free q free_seat (ltb-true q (length seats) lt)
   | inr ge ↦ ap (λ (x : Seat). x.txn) (get_or_past seats q free_seat (ltb-false q (length seats) ge))
@@ -58,11 +58,11 @@ nobody_yet : IsDistinct nat_eq []
 unfolding IsDistinct
 nobody_yet = tt
 
-pub table_starts : (pages : ℕ) (seats : List Seat) → AreFresh pages seats → IsTable pages (replicate pages nobody) [] seats
+pub table_starts : (pages : ℕ) (seats : List Seat) → AreFresh pages seats → IsLockTable pages (replicate pages nobody) [] seats
 table_starts pages seats f = record {
   seated = record {
     count = f.count;
-    seated = All-nil (λ (a : Admitted). (a.place < MOST_OPEN) × (number_at seats a.place ≡ Some a.txn));
+    seated = All-nil (λ (a : Admitted). (a.place < MOST_OPEN) × (transaction_at seats a.place ≡ Some a.txn));
     admitted = λ place n e. let z : None ≡ Some n = sym (fresh_number pages seats place f) ∙ e in absurd cc;
     single = λ one other n e g. let z : None ≡ Some n = sym (fresh_number pages seats one f) ∙ e in absurd cc;
     distinct = nobody_yet;
@@ -85,7 +85,7 @@ table_starts pages seats f = record {
 
 -- ---- one is admitted
 
-module _ (held : List Admitted) (seats : List Seat) (txn q : ℕ) (s : AreSeated held seats) (low : q < MOST_OPEN) (free : number_at seats q ≡ None) (new : is_among (numbers_in held) txn ≡ false) where
+module _ (held : List Admitted) (seats : List Seat) (txn q : ℕ) (s : AreSeated held seats) (low : q < MOST_OPEN) (free : transaction_at seats q ≡ None) (new : is_among (numbers_in held) txn ≡ false) where
   abbrev pub seat : Seat
   seat = record { txn = Some txn; pages = (seat_at seats q).pages }
 
@@ -95,29 +95,29 @@ module _ (held : List Admitted) (seats : List Seat) (txn q : ℕ) (s : AreSeated
   within : q < length seats
   within = let c = s.count in omega (arith, c)
 
-  own : number_at (set seats q seat) q ≡ Some txn
+  own : transaction_at (set seats q seat) q ≡ Some txn
   own = number-set_same seats q seat within
 
-  not_free : (p n : ℕ) → number_at seats p ≡ Some n → p ≢ q
-  not_free p n e same = let z : None ≡ Some n = sym free ∙ (ap (number_at seats) (sym same) ∙ e) in cc
+  not_free : (p n : ℕ) → transaction_at seats p ≡ Some n → p ≢ q
+  not_free p n e same = let z : None ≡ Some n = sym free ∙ (ap (transaction_at seats) (sym same) ∙ e) in cc
 
   among : (n : ℕ) → is_among (numbers_in (held ++ one ∷ [])) n ≡ (is_among (numbers_in held) n || ((txn == n) || false))
   among n = ap (λ ns. is_among ns n) (numbers-append held one) ∙ list_any-append (λ k. k == n) (numbers_in held) (txn ∷ [])
 
-  by_place : (p n : ℕ) → number_at (set seats q seat) p ≡ Some n → ((p ≡ q) × (n ≡ txn)) ⊎ ((p ≢ q) × (number_at seats p ≡ Some n))
+  by_place : (p n : ℕ) → transaction_at (set seats q seat) p ≡ Some n → ((p ≡ q) × (n ≡ txn)) ⊎ ((p ≢ q) × (transaction_at seats p ≡ Some n))
   by_place p n e = elim (cases_eq p q) [
-    | inl here ↦ inl (here, some_same n txn (sym e ∙ (ap (number_at (set seats q seat)) here ∙ own)))
+    | inl here ↦ inl (here, some_same n txn (sym e ∙ (ap (transaction_at (set seats q seat)) here ∙ own)))
     | inr ne ↦ inr (ne, sym (number-set_other seats q p seat ne) ∙ e)
   ]
 
   -- the number of another place isn't the new one
-  apart_from : (p : ℕ) → number_at seats p ≡ Some txn → ⊥
+  apart_from : (p : ℕ) → transaction_at seats p ≡ Some txn → ⊥
   apart_from p e = let z : true ≡ false = sym (s.admitted p txn e) ∙ new in cc
 
   pub seated_admits : AreSeated (held ++ one ∷ []) (set seats q seat)
   seated_admits = record {
     count = length-set seats q seat ∙ s.count;
-    seated = All-push (λ (a : Admitted). (a.place < MOST_OPEN) × (number_at (set seats q seat) a.place ≡ Some a.txn)) held one
+    seated = All-push (λ (a : Admitted). (a.place < MOST_OPEN) × (transaction_at (set seats q seat) a.place ≡ Some a.txn)) held one
         (λ i d l. let e = s.seated i d l in
         (e.0, number-set_other seats q (get_or held i d).place seat (not_free (get_or held i d).place (get_or held i d).txn e.1) ∙ e.1)) (low, own);
     admitted = λ p n e. elim (by_place p n e) [
@@ -163,7 +163,7 @@ module _ (held : List Admitted) (seats : List Seat) (txn q : ℕ) (s : AreSeated
       count = c.count;
       covered = λ m page p l e. pages_same p page ∙ c.covered m page p l e;
       empty = λ p page none. elim (cases_eq p q) [
-        | inl here ↦ let z : None ≡ Some txn = sym none ∙ (ap (number_at (set seats q seat)) here ∙ own) in absurd cc
+        | inl here ↦ let z : None ≡ Some txn = sym none ∙ (ap (transaction_at (set seats q seat)) here ∙ own) in absurd cc
         | inr ne ↦ pages_same p page ∙ c.empty p page (sym (number-set_other seats q p seat ne) ∙ none)
       ];
       room = λ p l. elim (cases_eq p q) [
@@ -192,7 +192,7 @@ module _ (held : List Admitted) (seats : List Seat) (txn q : ℕ) (s : AreSeated
     pub same_locks : HaveSameLocks (locks_of holders held) (locks_of holders (held ++ one ∷ []))
     same_locks = record { shared = λ n page. same_lock Shared n page; exclusive = λ n page. same_lock Exclusive n page }
 
-    pub table_admits : KeepsApart (locks_of holders held) → IsTable pages holders (held ++ one ∷ []) (set seats q seat)
+    pub table_admits : KeepsApart (locks_of holders held) → IsLockTable pages holders (held ++ one ∷ []) (set seats q seat)
     table_admits apart = record {
       seated = seated_admits;
       covered = covered_admits;
@@ -200,7 +200,7 @@ module _ (held : List Admitted) (seats : List Seat) (txn q : ℕ) (s : AreSeated
     }
 
 -- no place is free
-pub full : (held : List Admitted) (seats : List Seat) → AreSeated held seats → ((q : ℕ) → q < MOST_OPEN → number_at seats q ≢ None) → length held ≡ MOST_OPEN
+pub full : (held : List Admitted) (seats : List Seat) → AreSeated held seats → ((q : ℕ) → q < MOST_OPEN → transaction_at seats q ≢ None) → length held ≡ MOST_OPEN
 full held seats s taken =
     let c = s.count in
     let none = none_free seats (λ q lt. taken q (omega (arith, lt, c))) in
@@ -209,8 +209,8 @@ full held seats s taken =
 
 -- ---- one is released
 
-module _ (pages : ℕ) (old new : List Holders) (held : List Admitted) (seats : List Seat) (gone q : ℕ) (t : Seat) (table : IsTable pages old held seats)
-    (low : q < MOST_OPEN) (is : number_at seats q ≡ Some gone) (left : t.txn ≡ None) (none : (p : ℕ) → in_set t.pages p ≡ false) (as_wide : length t.pages ≡ length (seat_at seats q).pages)
+module _ (pages : ℕ) (old new : List Holders) (held : List Admitted) (seats : List Seat) (gone q : ℕ) (t : Seat) (table : IsLockTable pages old held seats)
+    (low : q < MOST_OPEN) (is : transaction_at seats q ≡ Some gone) (left : t.txn ≡ None) (none : (p : ℕ) → in_set t.pages p ≡ false) (as_wide : length t.pages ≡ length (seat_at seats q).pages)
     (as_long : length new ≡ length old)
     (vacated : (m : Mode) (page r : ℕ) → r < MOST_OPEN → is_held m new page r ≡ (is_held m old page r && not ((r == q) && may_hold seats q page))) where
   abbrev pub without : List Admitted
@@ -219,16 +219,16 @@ module _ (pages : ℕ) (old new : List Holders) (held : List Admitted) (seats : 
   inside : q < length seats
   inside = let c = table.seated.count in omega (arith, c)
 
-  nothing : number_at (set seats q t) q ≡ None
+  nothing : transaction_at (set seats q t) q ≡ None
   nothing = number-set_same seats q t inside ∙ left
 
-  elsewhere : (p n : ℕ) → number_at (set seats q t) p ≡ Some n → (p ≢ q) × (number_at seats p ≡ Some n)
+  elsewhere : (p n : ℕ) → transaction_at (set seats q t) p ≡ Some n → (p ≢ q) × (transaction_at seats p ≡ Some n)
   elsewhere p n e =
-      let ne : p ≢ q = λ here. let z : None ≡ Some n = sym nothing ∙ (ap (number_at (set seats q t)) (sym here) ∙ e) in cc in
+      let ne : p ≢ q = λ here. let z : None ≡ Some n = sym nothing ∙ (ap (transaction_at (set seats q t)) (sym here) ∙ e) in cc in
       (ne, sym (number-set_other seats q p t ne) ∙ e)
 
   -- another place has another number
-  another : (p n : ℕ) → number_at seats p ≡ Some n → p ≢ q → n ≢ gone
+  another : (p n : ℕ) → transaction_at seats p ≡ Some n → p ≢ q → n ≢ gone
   another p n e ne same = ne (table.seated.single p q n e (is ∙ ap Some (sym same)))
 
   still : (n : ℕ) → n ≢ gone → is_among (numbers_in without) n ≡ is_among (numbers_in held) n
@@ -241,12 +241,12 @@ module _ (pages : ℕ) (old new : List Holders) (held : List Admitted) (seats : 
   pub seated_releases : AreSeated without (set seats q t)
   seated_releases =
       let s = table.seated in
-      let old_ones = All-filter (λ (a : Admitted). not (a.txn == gone)) (λ (a : Admitted). (a.place < MOST_OPEN) × (number_at seats a.place ≡ Some a.txn)) held s.seated in record {
+      let old_ones = All-filter (λ (a : Admitted). not (a.txn == gone)) (λ (a : Admitted). (a.place < MOST_OPEN) × (transaction_at seats a.place ≡ Some a.txn)) held s.seated in record {
         count = length-set seats q t ∙ s.count;
         seated = λ i d l.
             let e = old_ones i d l in
             let ne : (get_or without i d).place ≢ q = λ here.
-            kept_apart i d l (some_same (get_or without i d).txn gone (sym e.1 ∙ (ap (number_at seats) here ∙ is))) in
+            kept_apart i d l (some_same (get_or without i d).txn gone (sym e.1 ∙ (ap (transaction_at seats) here ∙ is))) in
             (e.0, number-set_other seats q (get_or without i d).place t ne ∙ e.1);
         admitted = λ p n e. let x = elsewhere p n e in still n (another p n x.1 x.0) ∙ s.admitted p n x.1;
         single = λ a b n e f. s.single a b n (elsewhere a n e).1 (elsewhere b n f).1;
@@ -300,7 +300,7 @@ module _ (pages : ℕ) (old new : List Holders) (held : List Admitted) (seats : 
       kept : n ≢ gone → has_lock m (locks_of new without) n page ≡ has_lock m (locks_of old held) n page
       kept ne = elim (seat_or_not held seats n table.seated) [
         | inl f ↦
-            let off : f.0 ≢ q = λ here. ne (some_same n gone (sym f.2 ∙ (ap (number_at seats) here ∙ is))) in
+            let off : f.0 ≢ q = λ here. ne (some_same n gone (sym f.2 ∙ (ap (transaction_at seats) here ∙ is))) in
             lock_at without (set seats q t) new m n page f.0 seated_releases (number-set_other seats q f.0 t off ∙ f.2)
             ∙ (vacated m page f.0 f.1
             ∙ (ap (λ b. is_held m old page f.0 && not (b && may_hold seats q page)) (ne_eqb f.0 q off)
@@ -315,7 +315,7 @@ module _ (pages : ℕ) (old new : List Holders) (held : List Admitted) (seats : 
     exclusive = λ n page. lock_less Exclusive n page;
   }
 
-  pub table_releases : IsTable pages new without (set seats q t)
+  pub table_releases : IsLockTable pages new without (set seats q t)
   table_releases = record {
     seated = seated_releases;
     covered = covered_releases;

@@ -3,24 +3,24 @@ use Rattle.std.proofs.Common.{◌≡◌, ℕ, ◌+◌, ◌<◌, true, false, con
 use Rattle.std.proofs.lemmas.Bool.{cases_eq, cases_Bool, ltb-true, ltb-false}
 use Rattle.std.proofs.lemmas.List.{get_or_default}
 use Rattle.page_locks.specs.Sets.{has_bit}
-use Rattle.page_locks.specs.Places.{free_seat, number_at, smaller_of, IsMarked, IsLeastMarked}
+use Rattle.page_locks.specs.Places.{free_seat, transaction_at, smaller_of, IsAtMarkedPlace, IsLeastMarked}
 use Rattle.page_locks.specs.declared.seats.Seat.{Seat}
 use Rattle.page_locks.proofs.Seated.{some_same}
 
 module _ (seats : List Seat) (places k : ℕ) where
-  up : (n : ℕ) → IsMarked seats places k n → IsMarked seats places (k + 1) n
+  up : (n : ℕ) → IsAtMarkedPlace seats places k n → IsAtMarkedPlace seats places (k + 1) n
   up n m = let b = m.below in record { place = m.place; below = omega (arith, b); marked = m.marked; number = m.number }
 
-  down : (n : ℕ) → IsMarked seats places (k + 1) n → IsMarked seats places k n ⊎ ((has_bit places k ≡ true) × (number_at seats k ≡ Some n))
+  down : (n : ℕ) → IsAtMarkedPlace seats places (k + 1) n → IsAtMarkedPlace seats places k n ⊎ ((has_bit places k ≡ true) × (transaction_at seats k ≡ Some n))
   down n m = elim (cases_eq m.place k) [
-    | inl here ↦ inr (ap (has_bit places) (sym here) ∙ m.marked, ap (number_at seats) (sym here) ∙ m.number)
+    | inl here ↦ inr (ap (has_bit places) (sym here) ∙ m.marked, ap (transaction_at seats) (sym here) ∙ m.number)
     | inr off ↦ let b = m.below in inl (record { place = m.place; below = omega (arith, b, off); marked = m.marked; number = m.number })
   ]
 
-  here : (n : ℕ) → has_bit places k ≡ true → number_at seats k ≡ Some n → IsMarked seats places (k + 1) n
+  here : (n : ℕ) → has_bit places k ≡ true → transaction_at seats k ≡ Some n → IsAtMarkedPlace seats places (k + 1) n
   here n on is = record { place = k; below = omega arith; marked = on; number = is }
 
-  same : (least : Option ℕ) → ((n : ℕ) → has_bit places k ≡ true → number_at seats k ≡ Some n → ⊥) → IsLeastMarked seats places k least → IsLeastMarked seats places (k + 1) least
+  same : (least : Option ℕ) → ((n : ℕ) → has_bit places k ≡ true → transaction_at seats k ≡ Some n → ⊥) → IsLeastMarked seats places k least → IsLeastMarked seats places (k + 1) least
   same None never h = λ n m. elim (down n m) [
     | inl old ↦ h n old
     | inr new ↦ never n new.0 new.1
@@ -36,7 +36,7 @@ module _ (seats : List Seat) (places k : ℕ) where
   pub not_marked : (least : Option ℕ) → has_bit places k ≡ false → IsLeastMarked seats places k least → IsLeastMarked seats places (k + 1) least
   not_marked least off h = same least (λ n on is. let clash : true ≡ false = sym on ∙ off in cc) h
 
-  pub marked_by : (least one : Option ℕ) → has_bit places k ≡ true → number_at seats k ≡ one → IsLeastMarked seats places k least
+  pub marked_by : (least one : Option ℕ) → has_bit places k ≡ true → transaction_at seats k ≡ one → IsLeastMarked seats places k least
       → IsLeastMarked seats places (k + 1) (smaller_of one least)
   marked_by least None on is h = same least (λ n o e. let clash : None ≡ Some n = sym is ∙ e in cc) h
   marked_by None (Some new) on is h = (
@@ -63,5 +63,5 @@ module _ (seats : List Seat) (places k : ℕ) where
     )
   ]
 
-pub seat_number : (seats : List Seat) (k : ℕ) (s : Seat) → k < length seats → s ≡ get_or seats k s → number_at seats k ≡ s.txn
+pub seat_number : (seats : List Seat) (k : ℕ) (s : Seat) → k < length seats → s ≡ get_or seats k s → transaction_at seats k ≡ s.txn
 seat_number seats k s lt is = ap (λ (x : Seat). x.txn) (get_or_default seats k free_seat s lt ∙ sym is)

@@ -8,7 +8,7 @@ use Rattle.std.proofs.lemmas.List.Sums.{sum_by-set, sum_by-cons}
 use Rattle.object_graph.specs.declared.limits.TheConstants.{MOST_OPEN}
 use Rattle.page_locks.specs.Sets.{is_among}
 use Rattle.page_locks.specs.Words.{nobody, holders_at, is_held}
-use Rattle.page_locks.specs.Places.{free_seat, seat_at, number_at, free_or_not, count_free, locks_of, numbers_in, AreSeated}
+use Rattle.page_locks.specs.Places.{free_seat, seat_at, transaction_at, free_or_not, count_free, locks_of, numbers_in, AreSeated}
 use Rattle.page_locks.specs.declared.admitted.Admitted.{Admitted}
 use Rattle.page_locks.specs.declared.holders.Holders.{Holders}
 use Rattle.page_locks.specs.declared.holders.Mode.{Mode}
@@ -18,17 +18,17 @@ use Rattle.page_locks.proofs.Modes.{has_lock, has_lock-locks_of}
 
 -- ---- one seat changes
 
-pub number-set_same : (seats : List Seat) (q : ℕ) (s : Seat) → q < length seats → number_at (set seats q s) q ≡ s.txn
+pub number-set_same : (seats : List Seat) (q : ℕ) (s : Seat) → q < length seats → transaction_at (set seats q s) q ≡ s.txn
 number-set_same seats q s lt = ap (λ (x : Seat). x.txn) (get_or-set_same seats q s free_seat lt)
 
-pub number-set_other : (seats : List Seat) (q p : ℕ) (s : Seat) → p ≢ q → number_at (set seats q s) p ≡ number_at seats p
+pub number-set_other : (seats : List Seat) (q p : ℕ) (s : Seat) → p ≢ q → transaction_at (set seats q s) p ≡ transaction_at seats p
 number-set_other seats q p s ne = ap (λ (x : Seat). x.txn) (get_or-set_other seats q p s free_seat ne)
 
 pub count-set : (seats : List Seat) (q : ℕ) (s : Seat) → q < length seats
-    → count_free (set seats q s) + free_or_not (number_at seats q) ≡ count_free seats + free_or_not s.txn
+    → count_free (set seats q s) + free_or_not (transaction_at seats q) ≡ count_free seats + free_or_not s.txn
 count-set seats q s lt = sum_by-set (λ (x : Seat). free_or_not x.txn) seats q s free_seat lt
 
-pub none_free : (seats : List Seat) → ((q : ℕ) → q < length seats → number_at seats q ≢ None) → count_free seats ≡ 0
+pub none_free : (seats : List Seat) → ((q : ℕ) → q < length seats → transaction_at seats q ≢ None) → count_free seats ≡ 0
 none_free [] taken = refl
 none_free (s ∷ ss) taken =
     let rest : count_free ss ≡ 0 = none_free ss (λ q lt. taken (suc q) (omega arith)) in
@@ -50,14 +50,14 @@ one_among (a ∷ others) P n e all = elim (or_cases (a.txn == n) (is_among (numb
 ]
 
 pub seat_of : (held : List Admitted) (seats : List Seat) (n : ℕ) → AreSeated held seats → is_among (numbers_in held) n ≡ true
-    → (q : ℕ) × (q < MOST_OPEN) × (number_at seats q ≡ Some n)
+    → (q : ℕ) × (q < MOST_OPEN) × (transaction_at seats q ≡ Some n)
 seat_of held seats n s e =
-    let f = one_among held (λ a. (a.place < MOST_OPEN) × (number_at seats a.place ≡ Some a.txn)) n e
-    (recursion_from_All (λ a. (a.place < MOST_OPEN) × (number_at seats a.place ≡ Some a.txn)) held s.seated) in
+    let f = one_among held (λ a. (a.place < MOST_OPEN) × (transaction_at seats a.place ≡ Some a.txn)) n e
+    (recursion_from_All (λ a. (a.place < MOST_OPEN) × (transaction_at seats a.place ≡ Some a.txn)) held s.seated) in
     (f.0.place, f.1.0, f.1.1 ∙ ap Some f.2)
 
 pub seat_or_not : (held : List Admitted) (seats : List Seat) (n : ℕ) → AreSeated held seats
-    → ((q : ℕ) × (q < MOST_OPEN) × (number_at seats q ≡ Some n)) ⊎ (is_among (numbers_in held) n ≡ false)
+    → ((q : ℕ) × (q < MOST_OPEN) × (transaction_at seats q ≡ Some n)) ⊎ (is_among (numbers_in held) n ≡ false)
 seat_or_not held seats n s = elim (cases_Bool (is_among (numbers_in held) n)) [
   | inl e ↦ inl (seat_of held seats n s e)
   | inr e ↦ inr e
@@ -91,7 +91,7 @@ any_none (a ∷ others) n g e =
     ap (λ b. (b && g a.place) || list_any (λ a. (a.txn == n) && g a.place) others) p.0 ∙ any_none others n g p.1
 
 -- the locks of a transaction are the bits of its place
-pub lock_at : (held : List Admitted) (seats : List Seat) (holders : List Holders) (m : Mode) (n page q : ℕ) → AreSeated held seats → number_at seats q ≡ Some n
+pub lock_at : (held : List Admitted) (seats : List Seat) (holders : List Holders) (m : Mode) (n page q : ℕ) → AreSeated held seats → transaction_at seats q ≡ Some n
     → has_lock m (locks_of holders held) n page ≡ is_held m holders page q
 lock_at held seats holders m n page q s e =
     has_lock-locks_of m holders held n page
@@ -111,15 +111,15 @@ some_same a b e = ap (λ o. of o) e
     of (Some n) = n
 
 -- two places are one where their numbers are
-pub same_place : (held : List Admitted) (seats : List Seat) (q place n txn : ℕ) → AreSeated held seats → number_at seats q ≡ Some n → number_at seats place ≡ Some txn
+pub same_place : (held : List Admitted) (seats : List Seat) (q place n txn : ℕ) → AreSeated held seats → transaction_at seats q ≡ Some n → transaction_at seats place ≡ Some txn
     → (q == place) ≡ (n == txn)
 same_place held seats q place n txn s e f = elim (cases_eq q place) [
-  | inl same ↦ eq-eqb q place same ∙ sym (eq-eqb n txn (some_same n txn (sym e ∙ (ap (number_at seats) same ∙ f))))
+  | inl same ↦ eq-eqb q place same ∙ sym (eq-eqb n txn (some_same n txn (sym e ∙ (ap (transaction_at seats) same ∙ f))))
   | inr ne ↦ ne_eqb q place ne ∙ sym (ne_eqb n txn (λ same. ne (s.single q place n e (f ∙ ap Some (sym same)))))
 ]
 
 -- who has no place isn't admitted
-pub unseated : (held : List Admitted) (seats : List Seat) (txn : ℕ) → AreSeated held seats → ((q : ℕ) → number_at seats q ≢ Some txn) → is_among (numbers_in held) txn ≡ false
+pub unseated : (held : List Admitted) (seats : List Seat) (txn : ℕ) → AreSeated held seats → ((q : ℕ) → transaction_at seats q ≢ Some txn) → is_among (numbers_in held) txn ≡ false
 unseated held seats txn s never = elim (cases_Bool (is_among (numbers_in held) txn)) [
   | inl e ↦ let f = seat_of held seats txn s e in absurd (never f.0 f.2)
   | inr e ↦ e

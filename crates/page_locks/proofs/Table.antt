@@ -7,7 +7,7 @@ use Rattle.object_graph.specs.declared.limits.TheConstants.{MOST_OPEN}
 use Rattle.page_locks.specs.Sets.{has_bit, in_set, HasRoom, is_among}
 use Rattle.page_locks.specs.Words.{word_of, is_mode, to_write, holders_at, is_held}
 use Rattle.page_locks.specs.Holding.{Held, numbers, is_in_way, IsNobody, KeepsApart}
-use Rattle.page_locks.specs.Places.{free_seat, seat_at, number_at, may_hold, free_or_not, locks_of, numbers_in, Adds, AreSeated, AreCovered, IsTable}
+use Rattle.page_locks.specs.Places.{free_seat, seat_at, transaction_at, may_hold, free_or_not, locks_of, numbers_in, AddsLock, AreSeated, AreCovered, IsLockTable}
 use Rattle.page_locks.specs.declared.admitted.Admitted.{Admitted}
 use Rattle.page_locks.specs.declared.holders.Holders.{Holders}
 use Rattle.page_locks.specs.declared.holders.Mode.{Mode}
@@ -58,7 +58,7 @@ eqb_swap : (a b : ℕ) → (a == b) ≡ (b == a)
 eqb_swap a b = nat_eq_equiv.symm a b
 
 module _ (held : List Admitted) (seats : List Seat) (old new : List Holders) (page q txn : ℕ) (mode : Mode)
-    (s : AreSeated held seats) (own : number_at seats q ≡ Some txn)
+    (s : AreSeated held seats) (own : transaction_at seats q ≡ Some txn)
     (more : (m : Mode) (p r : ℕ) → is_held m new p r ≡ (is_held m old p r || (is_mode m mode && ((p == page) && (r == q))))) where
   lock_more : (m : Mode) (n p : ℕ) → has_lock m (locks_of new held) n p ≡ (has_lock m (locks_of old held) n p || (is_mode m mode && ((txn == n) && (p == page))))
   lock_more m n p = elim (seat_or_not held seats n s) [
@@ -82,9 +82,9 @@ module _ (held : List Admitted) (seats : List Seat) (old new : List Holders) (pa
   same_numbers : numbers (locks_of new held) ≡ numbers (locks_of old held)
   same_numbers = numbers-locks_of new held ∙ sym (numbers-locks_of old held)
 
-pub adds : (mode : Mode) (held : List Admitted) (seats : List Seat) (old new : List Holders) (page q txn : ℕ) → AreSeated held seats → number_at seats q ≡ Some txn
+pub adds : (mode : Mode) (held : List Admitted) (seats : List Seat) (old new : List Holders) (page q txn : ℕ) → AreSeated held seats → transaction_at seats q ≡ Some txn
     → ((m : Mode) (p r : ℕ) → is_held m new p r ≡ (is_held m old p r || (is_mode m mode && ((p == page) && (r == q)))))
-    → Adds mode (locks_of old held) (locks_of new held) txn page
+    → AddsLock mode (locks_of old held) (locks_of new held) txn page
 adds Shared held seats old new page q txn s own more = record {
   admitted = same_numbers held seats old new page q txn Shared s own more;
   shared = λ n p. lock_more held seats old new page q txn Shared s own more Shared n p;
@@ -96,12 +96,12 @@ adds Exclusive held seats old new page q txn s own more = record {
   exclusive = λ n p. lock_more held seats old new page q txn Exclusive s own more Exclusive n p;
 }
 
-apart_adds : (mode : Mode) (old new : List Held) (by at : ℕ) → Adds mode old new by at → IsNobody (is_in_way (to_write mode) old by at) → KeepsApart old → KeepsApart new
+apart_adds : (mode : Mode) (old new : List Held) (by at : ℕ) → AddsLock mode old new by at → IsNobody (is_in_way (to_write mode) old by at) → KeepsApart old → KeepsApart new
 apart_adds Shared old new by at = apart_shared old new by at
 apart_adds Exclusive old new by at = apart_exclusive old new by at
 
 -- the pages of a seat change, and its number stays
-seated_same : (held : List Admitted) (seats : List Seat) (q : ℕ) (t : Seat) → q < MOST_OPEN → t.txn ≡ number_at seats q → AreSeated held seats → AreSeated held (set seats q t)
+seated_same : (held : List Admitted) (seats : List Seat) (q : ℕ) (t : Seat) → q < MOST_OPEN → t.txn ≡ transaction_at seats q → AreSeated held seats → AreSeated held (set seats q t)
 seated_same held seats q t lt is s = record {
   count = length-set seats q t ∙ s.count;
   seated = λ i d l. ((s.seated i d l).0, same (get_or held i d).place ∙ (s.seated i d l).1);
@@ -118,14 +118,14 @@ seated_same held seats q t lt is s = record {
     within : q < length seats
     within = let c = s.count in omega (arith, c)
 
-    same : (p : ℕ) → number_at (set seats q t) p ≡ number_at seats p
+    same : (p : ℕ) → transaction_at (set seats q t) p ≡ transaction_at seats p
     same p = elim (cases_eq p q) [
-      | inl here ↦ ap (number_at (set seats q t)) here ∙ (number-set_same seats q t within ∙ (is ∙ ap (number_at seats) (sym here)))
+      | inl here ↦ ap (transaction_at (set seats q t)) here ∙ (number-set_same seats q t within ∙ (is ∙ ap (transaction_at seats) (sym here)))
       | inr ne ↦ number-set_other seats q p t ne
     ]
 
 covered_more : (pages : ℕ) (old new : List Holders) (seats : List Seat) (page q txn : ℕ) (mode : Mode) (t : Seat) → q < length seats
-    → number_at seats q ≡ Some txn → t.txn ≡ Some txn → length new ≡ length old
+    → transaction_at seats q ≡ Some txn → t.txn ≡ Some txn → length new ≡ length old
     → ((p : ℕ) → in_set t.pages p ≡ (may_hold seats q p || (p == page))) → length t.pages ≡ length (seat_at seats q).pages
     → ((m : Mode) (p r : ℕ) → is_held m new p r ≡ (is_held m old p r || (is_mode m mode && ((p == page) && (r == q)))))
     → AreCovered pages old seats → AreCovered pages new (set seats q t)
@@ -139,7 +139,7 @@ covered_more pages old new seats page q txn mode t lt own is as_long noted as_wi
   ];
   empty = λ r p none. elim (cases_eq r q) [
     | inl here ↦
-        let z : None ≡ Some txn = sym none ∙ (ap (number_at (set seats q t)) here ∙ (number-set_same seats q t lt ∙ is)) in absurd cc
+        let z : None ≡ Some txn = sym none ∙ (ap (transaction_at (set seats q t)) here ∙ (number-set_same seats q t lt ∙ is)) in absurd cc
     | inr ne ↦ ap (λ (x : Seat). in_set x.pages p) (seat-set_other seats q r t ne) ∙ c.empty r p (sym (number-set_other seats q r t ne) ∙ none)
   ];
   room = λ r low. elim (cases_eq r q) [
@@ -168,11 +168,11 @@ covered_more pages old new seats page q txn mode t lt own is as_long noted as_wi
     ]
 
 pub table_adds : (pages : ℕ) (holders : List Holders) (held : List Admitted) (seats : List Seat) (page q txn : ℕ) (mode : Mode) (h : Holders) (t : Seat)
-    → page < length holders → q < MOST_OPEN → number_at seats q ≡ Some txn → t.txn ≡ Some txn
+    → page < length holders → q < MOST_OPEN → transaction_at seats q ≡ Some txn → t.txn ≡ Some txn
     → ((m : Mode) (r : ℕ) → has_bit (word_of m h) r ≡ (has_bit (word_of m (holders_at holders page)) r || (is_mode m mode && (r == q))))
     → ((p : ℕ) → in_set t.pages p ≡ (may_hold seats q p || (p == page))) → length t.pages ≡ length (seat_at seats q).pages
-    → IsNobody (is_in_way (to_write mode) (locks_of holders held) txn page) → IsTable pages holders held seats
-    → IsTable pages (set holders page h) held (set seats q t)
+    → IsNobody (is_in_way (to_write mode) (locks_of holders held) txn page) → IsLockTable pages holders held seats
+    → IsLockTable pages (set holders page h) held (set seats q t)
 table_adds pages holders held seats page q txn mode h t lt low own is added noted as_wide free table =
     let more = held_more holders page q mode h lt added in
     let s = table.seated in record {

@@ -5,7 +5,7 @@ use Rattle.object_graph.specs.declared.limits.TheConstants.{MOST_OPEN}
 use Rattle.page_locks.specs.Sets.{is_among}
 use Rattle.page_locks.specs.Words.{conflicts, holders_at, is_held, to_write}
 use Rattle.page_locks.specs.Holding.{is_in_way, shares, excludes, IsNobody, IsLeast}
-use Rattle.page_locks.specs.Places.{number_at, locks_of, numbers_in, AreSeated, IsMarked, IsLeastInWay}
+use Rattle.page_locks.specs.Places.{transaction_at, locks_of, numbers_in, AreSeated, IsAtMarkedPlace, IsLeastInWay}
 use Rattle.page_locks.specs.declared.admitted.Admitted.{Admitted}
 use Rattle.page_locks.specs.declared.holders.Holders.{Holders}
 use Rattle.page_locks.specs.declared.holders.Mode.{Mode}
@@ -17,8 +17,8 @@ and_false : (a : Bool) → (a && false) ≡ false
 and_false true = refl
 and_false false = refl
 
-module _ (held : List Admitted) (seats : List Seat) (holders : List Holders) (mode : Mode) (txn page place : ℕ) (s : AreSeated held seats) (own : number_at seats place ≡ Some txn) where
-  way_at : (n q : ℕ) → number_at seats q ≡ Some n
+module _ (held : List Admitted) (seats : List Seat) (holders : List Holders) (mode : Mode) (txn page place : ℕ) (s : AreSeated held seats) (own : transaction_at seats place ≡ Some txn) where
+  way_at : (n q : ℕ) → transaction_at seats q ≡ Some n
       → is_in_way (to_write mode) (locks_of holders held) txn page n ≡ (not (q == place) && conflicts mode (holders_at holders page) q)
   way_at n q e =
       ap (λ b. not b && ((to_write mode && shares (locks_of holders held) n page) || excludes (locks_of holders held) n page)) (sym (same_place held seats q place n txn s e own))
@@ -32,13 +32,13 @@ module _ (held : List Admitted) (seats : List Seat) (holders : List Holders) (mo
       ∙ (ap (λ b. not (n == txn) && (b || false)) (and_false (to_write mode)) ∙ and_false (not (n == txn))))
 
   marked : (least : Option ℕ) (w : IsLeastInWay holders seats place page mode least) (n : ℕ)
-      → is_in_way (to_write mode) (locks_of holders held) txn page n ≡ true → IsMarked seats w.places MOST_OPEN n
+      → is_in_way (to_write mode) (locks_of holders held) txn page n ≡ true → IsAtMarkedPlace seats w.places MOST_OPEN n
   marked least w n e = elim (seat_or_not held seats n s) [
     | inl f ↦ record { place = f.0; below = f.1; marked = w.each f.0 f.1 ∙ (sym (way_at n f.0 f.2) ∙ e); number = f.2 }
     | inr none ↦ let clash : true ≡ false = sym e ∙ way_none n none in absurd cc
   ]
 
-  in_the_way : (least : Option ℕ) (w : IsLeastInWay holders seats place page mode least) (n : ℕ) → IsMarked seats w.places MOST_OPEN n
+  in_the_way : (least : Option ℕ) (w : IsLeastInWay holders seats place page mode least) (n : ℕ) → IsAtMarkedPlace seats w.places MOST_OPEN n
       → is_in_way (to_write mode) (locks_of holders held) txn page n ≡ true
   in_the_way least w n m = way_at n m.place m.number ∙ (sym (w.each m.place m.below) ∙ m.marked)
 

@@ -18,8 +18,8 @@ abbrev pub seat_at : List Seat → ℕ → Seat
 seat_at seats place = slice_index_or seats place free_seat
 
 -- the number of the transaction at a place
-abbrev pub number_at : List Seat → ℕ → Option ℕ
-number_at seats place = (seat_at seats place).txn
+abbrev pub transaction_at : List Seat → ℕ → Option ℕ
+transaction_at seats place = (seat_at seats place).txn
 
 -- the pages that the place may hold
 abbrev pub may_hold : List Seat → ℕ → ℕ → Bool
@@ -60,9 +60,9 @@ pub record AreFresh (pages : ℕ) (seats : List Seat) : Type 0 where
 -- each that is admitted has a place, and each place that isn't free one that is admitted
 pub record AreSeated (held : List Admitted) (seats : List Seat) : Type 0 where
   pub count : length seats ≡ MOST_OPEN
-  pub seated : All (λ a. (a.place < MOST_OPEN) × (number_at seats a.place ≡ Some a.txn)) held
-  pub admitted : (place n : ℕ) → number_at seats place ≡ Some n → is_among (numbers_in held) n ≡ true
-  pub single : (one other n : ℕ) → number_at seats one ≡ Some n → number_at seats other ≡ Some n → one ≡ other
+  pub seated : All (λ a. (a.place < MOST_OPEN) × (transaction_at seats a.place ≡ Some a.txn)) held
+  pub admitted : (place n : ℕ) → transaction_at seats place ≡ Some n → is_among (numbers_in held) n ≡ true
+  pub single : (one other n : ℕ) → transaction_at seats one ≡ Some n → transaction_at seats other ≡ Some n → one ≡ other
   pub distinct : IsDistinct nat_eq (numbers_in held)
   pub free : length held + count_free seats ≡ MOST_OPEN
 
@@ -71,10 +71,10 @@ pub record AreCovered (pages : ℕ) (holders : List Holders) (seats : List Seat)
   pub count : length holders ≡ pages
   pub covered : (mode : Mode) (page place : ℕ) → place < MOST_OPEN → is_held mode holders page place ≡ true
       → may_hold seats place page ≡ true
-  pub empty : (place page : ℕ) → number_at seats place ≡ None → may_hold seats place page ≡ false
+  pub empty : (place page : ℕ) → transaction_at seats place ≡ None → may_hold seats place page ≡ false
   pub room : (place : ℕ) → place < MOST_OPEN → HasRoom pages (seat_at seats place).pages
 
-pub record IsTable (pages : ℕ) (holders : List Holders) (admitted : List Admitted) (seats : List Seat) : Type 0 where
+pub record IsLockTable (pages : ℕ) (holders : List Holders) (admitted : List Admitted) (seats : List Seat) : Type 0 where
   pub seated : AreSeated admitted seats
   pub covered : AreCovered pages holders seats
   pub apart : KeepsApart (locks_of holders admitted)
@@ -82,17 +82,17 @@ pub record IsTable (pages : ℕ) (holders : List Holders) (admitted : List Admit
 -- ---- the least number at some places
 
 -- the number is that of one of the first places that are in the set
-pub record IsMarked (seats : List Seat) (places count n : ℕ) : Type 0 where
+pub record IsAtMarkedPlace (seats : List Seat) (places count n : ℕ) : Type 0 where
   pub place : ℕ
   pub below : place < count
   pub marked : has_bit places place ≡ true
-  pub number : number_at seats place ≡ Some n
+  pub number : transaction_at seats place ≡ Some n
 
 -- none, or the least of these numbers
 abbrev pub IsLeastMarked : List Seat → ℕ → ℕ → Option ℕ → Type 0
-IsLeastMarked seats places count None = (n : ℕ) → IsMarked seats places count n → ⊥
+IsLeastMarked seats places count None = (n : ℕ) → IsAtMarkedPlace seats places count n → ⊥
 IsLeastMarked seats places count (Some least) =
-    IsMarked seats places count least × ((n : ℕ) → IsMarked seats places count n → least ≤ n)
+    IsAtMarkedPlace seats places count least × ((n : ℕ) → IsAtMarkedPlace seats places count n → least ≤ n)
 
 -- the smaller of two numbers
 abbrev pub smaller_of : Option ℕ → Option ℕ → Option ℕ
@@ -111,6 +111,6 @@ pub record IsLeastInWay (holders : List Holders) (seats : List Seat) (place page
   pub is_least : IsLeastMarked seats places MOST_OPEN least
 
 -- one more lock
-abbrev pub Adds : Mode → List Held → List Held → ℕ → ℕ → Type 0
-Adds Shared = AddsShared
-Adds Exclusive = AddsExclusive
+abbrev pub AddsLock : Mode → List Held → List Held → ℕ → ℕ → Type 0
+AddsLock Shared = AddsShared
+AddsLock Exclusive = AddsExclusive

@@ -2,7 +2,7 @@
 ghost use Rattle.std.specs.Prelude.{◌≡◌, ℕ, ◌<◌, ◌≤◌, ◌++◌, ◌∷◌, ◌||◌, [], true, false, IfOk, IfErr, OnOk, OnErr, length};
 ghost use Rattle.page_locks.specs.Holding.{numbers, shares, excludes, is_admitted, is_in_way, IsNobody, IsLeast, HaveSameLocks, AddsShared, AddsExclusive, Releases, KeepsApart};
 ghost use Rattle.page_locks.specs.Words.{to_write};
-ghost use Rattle.page_locks.specs.Places.{Adds, IsLeastInWay};
+ghost use Rattle.page_locks.specs.Places.{AddsLock, IsLeastInWay};
 
 use crate::admitted::{Admitted, drop_admitted};
 use crate::holders::{Holders, Mode, NOBODY, vacate};
@@ -39,13 +39,13 @@ impl Model for Locks {
     ghost use Rattle.std.specs.Prelude.{◌≤◌, vec_capacity};
     ghost use Rattle.object_graph.specs.declared.limits.TheConstants.{MOST_OPEN};
     ghost use Rattle.page_locks.specs.Holding.{LockTable};
-    ghost use Rattle.page_locks.specs.Places.{IsTable, locks_of};
+    ghost use Rattle.page_locks.specs.Places.{IsLockTable, locks_of};
 
     ghost Value = { LockTable };
 
     ghost view = { λ l. record { pages = l.pages; held = locks_of l.holders.items l.admitted.items } };
 
-    ghost invariant = { λ l. (MOST_OPEN ≤ vec_capacity l.admitted) × IsTable l.pages l.holders.items l.admitted.items l.seats.items };
+    ghost invariant = { λ l. (MOST_OPEN ≤ vec_capacity l.admitted) × IsLockTable l.pages l.holders.items l.admitted.items l.seats.items };
 }
 
 impl Locks {
@@ -190,7 +190,7 @@ impl Locks {
         requires admitted { is_admitted self.old.held txn ≡ true }
         requires page { page < self.old.pages }
         ensures free { OnOk result (IsNobody (is_in_way (to_write mode) self.old.held txn page)) }
-        ensures taken { OnOk result (Adds mode self.old.held self.new.held txn page) }
+        ensures taken { OnOk result (AddsLock mode self.old.held self.new.held txn page) }
         ensures busy { IfErr result (λ busy. IsLeast (is_in_way (to_write mode) self.old.held txn page) busy.holder) }
         ensures unchanged { OnErr result (self.new ≡ self.old) }
         ensures pages { self.new.pages ≡ self.old.pages }

@@ -1,7 +1,7 @@
 //! The places of transactions.
 ghost use Rattle.std.specs.Prelude.{◌≡◌, ◌≢◌, ℕ, ◌<◌, false, None, Some, IfNone, IfOk, IfSome, length};
 ghost use Rattle.page_locks.specs.Sets.{in_set};
-ghost use Rattle.page_locks.specs.Places.{number_at, smaller_of, IsLeastMarked, AreFresh};
+ghost use Rattle.page_locks.specs.Places.{transaction_at, smaller_of, IsLeastMarked, AreFresh};
 
 use crate::page_set::PageSet;
 use object_graph::{MOST_OPEN, Memory};
@@ -46,8 +46,8 @@ pub fn free_seats(alloc: Global, pages: u32) -> Result<Vec<Seat>, Memory>
 pub fn place_of(seats: &[Seat], noted: &[u8], txn: u32) -> Option<usize>
     requires { length seats.now ≡ MOST_OPEN }
     ensures within { IfSome result (λ place. place < MOST_OPEN) }
-    ensures some { IfSome result (λ place. number_at seats.now place ≡ Some txn) }
-    ensures none { IfNone result ((q : ℕ) → number_at seats.now q ≢ Some txn) }
+    ensures some { IfSome result (λ place. transaction_at seats.now place ≡ Some txn) }
+    ensures none { IfNone result ((q : ℕ) → transaction_at seats.now q ≢ Some txn) }
 {
     let place = noted_place(noted, txn);
     if place < MOST_OPEN && seats[place].txn == Some(txn) {
@@ -82,8 +82,8 @@ fn slot_of(txn: u32) -> usize {
 pub fn free_place(seats: &[Seat]) -> Option<usize>
     requires { length seats.now ≡ MOST_OPEN }
     ensures within { IfSome result (λ place. place < MOST_OPEN) }
-    ensures some { IfSome result (λ place. number_at seats.now place ≡ None) }
-    ensures none { IfNone result ((q : ℕ) → q < MOST_OPEN → number_at seats.now q ≢ None) }
+    ensures some { IfSome result (λ place. transaction_at seats.now place ≡ None) }
+    ensures none { IfNone result ((q : ℕ) → q < MOST_OPEN → transaction_at seats.now q ≢ None) }
 {
     seat_with(seats, None)
 }
@@ -92,8 +92,8 @@ pub fn free_place(seats: &[Seat]) -> Option<usize>
 fn seat_with(seats: &[Seat], txn: Option<u32>) -> Option<usize>
     requires { length seats.now ≡ MOST_OPEN }
     ensures within { IfSome result (λ place. place < MOST_OPEN) }
-    ensures some { IfSome result (λ place. number_at seats.now place ≡ txn) }
-    ensures none { IfNone result ((q : ℕ) → q < MOST_OPEN → number_at seats.now q ≢ txn) }
+    ensures some { IfSome result (λ place. transaction_at seats.now place ≡ txn) }
+    ensures none { IfNone result ((q : ℕ) → q < MOST_OPEN → transaction_at seats.now q ≢ txn) }
 {
     'places: for (place, seat) in seats.iter().enumerate() {
         if seat.txn == txn {

@@ -8,7 +8,7 @@ use Rattle.page_image.specs.Pages.{PageParts}
 use Rattle.page_image.specs.Fields.{page_at}
 use Rattle.redo_journal.specs.Homes.{home_start, home_of}
 use Rattle.redo_journal.specs.Record.{RecordParts, numbers_of}
-use Rattle.redo_journal.specs.Replays.{images_in, last_image, image_of}
+use Rattle.redo_journal.specs.Replays.{images_in, last_image, image_among}
 use Rattle.redo_journal.specs.Results.{◌>>=◌, from_place}
 use Rattle.redo_journal.proofs.GrammarLaws.{unok, bind_ok}
 use Rattle.image_model.specs.Opening.{home_at, or_home, final_at, each_of}
@@ -108,7 +108,7 @@ each_same {A} f g (n ∷ ns) h =
     ap (λ (r : Result A ℕ). r >>= λ (y : A). each_of f ns >>= λ (l : List A). ok (y ∷ l)) (h n)
     ∙ ap (λ (r : Result (List A) ℕ). g n >>= λ (y : A). r >>= λ (l : List A). ok (y ∷ l)) (each_same f g ns h)
 
-pub finals_are : (records : List RecordParts) (images : List PageParts) (file : List ℕ) (ns : List ℕ) → ((page : ℕ) → image_of images page ≡ last_image (images_in records) page) → each_of (page_in images file) ns ≡ each_of (final_at records file) ns
+pub finals_are : (records : List RecordParts) (images : List PageParts) (file : List ℕ) (ns : List ℕ) → ((page : ℕ) → image_among images page ≡ last_image (images_in records) page) → each_of (page_in images file) ns ≡ each_of (final_at records file) ns
 finals_are records images file ns h = each_same (page_in images file) (final_at records file) ns (λ page. ap (λ (image : Option PageParts). or_home image page file) (h page))
 
 -- what a `?` handed on

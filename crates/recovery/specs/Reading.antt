@@ -2,7 +2,7 @@
 use Rattle.std.specs.Prelude.{◌≡◌, ⊤, ℕ, ◌+◌, ◌≤◌, List, [], ◌∷◌, drop, length, Result, Ok, Err}
 use Rattle.object_graph.specs.Slots.{below}
 use Rattle.page_image.specs.Pages.{PageParts}
-use Rattle.redo_journal.specs.Replays.{image_of}
+use Rattle.redo_journal.specs.Replays.{image_among}
 use Rattle.image_model.specs.Opening.{or_home, each_of}
 use Rattle.recovery.specs.declared.faults.OpenFault.{OpenFault}
 use Rattle.recovery.specs.declared.faults.OpenFault.TheVariants.{DiskFault, NotAStore, Damaged, Memory}
@@ -23,7 +23,7 @@ Gives read (Err fault) = IsFaultIn read fault
 
 -- the image of a page among these, or what stands at its home
 abbrev pub page_in : List PageParts → List ℕ → ℕ → Result PageParts ℕ
-page_in images file page = or_home (image_of images page) page file
+page_in images file page = or_home (image_among images page) page file
 
 -- these are the first pages of the file, as its homes and these images have them
 abbrev pub AreFirstPages : List PageParts → List ℕ → List PageParts → Type 0
@@ -41,4 +41,4 @@ AreFrom page (p ∷ ps) = (page ≤ p.number) × AreFrom (p.number + 1) ps
 -- of these images those of the pages from this one on stand from this place on, ascending
 pub record IsAhead (images : List PageParts) (next page : ℕ) : Type 0 where
   pub from : AreFrom page (drop next images)
-  pub same : (other : ℕ) → page ≤ other → image_of (drop next images) other ≡ image_of images other
+  pub same : (other : ℕ) → page ≤ other → image_among (drop next images) other ≡ image_among images other

@@ -4,7 +4,7 @@ ghost use Rattle.disk_trait.specs.Disk.{piece};
 ghost use Rattle.object_graph.specs.Slots.{below};
 ghost use Rattle.redo_journal.specs.Homes.{home_start};
 ghost use Rattle.redo_journal.specs.Record.{numbers_of};
-ghost use Rattle.redo_journal.specs.Replays.{image_of};
+ghost use Rattle.redo_journal.specs.Replays.{image_among};
 ghost use Rattle.redo_journal.specs.Results.{from_place};
 ghost use Rattle.image_model.specs.Opening.{home_at, or_spelled};
 ghost use Rattle.recovery.specs.Reading.{Gives, AreFirstPages, IsWrongPage, IsAhead};
@@ -43,7 +43,7 @@ fn page_of(bytes: &[u8; 1024], page: u32) -> Result<Page, OpenFault>
 /// The image of a page among these, which is the next one of them or isn't there.
 fn take_image(images: &[Page], next: &mut usize, page: u32) -> Option<Page>
     requires { IsAhead images.now next.old page }
-    ensures image { result ≡ image_of images.now page }
+    ensures image { result ≡ image_among images.now page }
     ensures number { IfSome result (λ p. p.number ≡ page) }
     ensures ahead { IsAhead images.now next.new (page + 1) }
 {
@@ -67,7 +67,7 @@ fn page_from(
 ) -> Result<Page, OpenFault>
     requires few { page < MOST_PAGES }
     requires ahead { IsAhead images.now next.old page }
-    ensures read { Gives (or_spelled (image_of images.now page) page home.now) result }
+    ensures read { Gives (or_spelled (image_among images.now page) page home.now) result }
     ensures number { IfOk result (λ p. p.number ≡ page) }
     ensures ahead { IsAhead images.now next.new (page + 1) }
     ensures disk { IsErrOf result OpenFault.DiskFault → ⊥ }

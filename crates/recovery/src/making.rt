@@ -7,7 +7,7 @@ ghost use Rattle.redo_journal.specs.Homes.{store_size};
 ghost use Rattle.store_model.specs.Worlds.{fresh_world};
 ghost use Rattle.image_model.specs.Super.{is_page_count};
 ghost use Rattle.image_model.specs.Stores.{IsStore};
-ghost use Rattle.image_model.specs.Stands.{opened};
+ghost use Rattle.image_model.specs.Stands.{opened_world};
 ghost use Rattle.image_model.specs.Files.{IsLaid, fresh_page, fresh_pages};
 
 use crate::faults::{LayFault, MakeFault};
@@ -48,7 +48,7 @@ fn fresh_pages(alloc: Global, count: u32) -> Result<Vec<Page>, Memory>
 pub fn make<D: Disk>(alloc: Global, disk: &mut D, pages: u64) -> Result<(), MakeFault>
     ensures laid { OnOk result (IfSome (D.content disk.new) (IsLaid 0 (fresh_pages pages))) }
     ensures store { OnOk result (IfSome (D.content disk.new) (λ c. IsStore c (record { commits = 0; pages = fresh_pages pages }))) }
-    ensures fresh { OnOk result (IfSome (D.content disk.new) (λ c. opened c ≡ fresh_world pages)) }
+    ensures fresh { OnOk result (IfSome (D.content disk.new) (λ c. opened_world c ≡ fresh_world pages)) }
     ensures synced { OnOk result (IsSynced (D.content disk.new) (D.may_leave disk.new)) }
     ensures bad { (count : ℕ) → (result ≡ Err (MakeFault.BadPages count)) ↔ ((count ≡ pages) × IsTrue (not (is_page_count pages))) }
     ensures short { (len need : ℕ) → (result ≡ Err (MakeFault.TooShort len need)) ↔ ((len ≡ D.size disk.old) × (need ≡ store_size pages) × IsTrue (is_page_count pages) × (len < need)) }

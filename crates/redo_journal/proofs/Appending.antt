@@ -12,7 +12,7 @@ use Rattle.redo_journal.specs.Gated.{TornBehind, behind_open}
 use Rattle.redo_journal.specs.Journals.{JournalParts, IsJournal, HoldsFor, IsAppendedOrNot, IsAppended, appended, need_of, left_of}
 use Rattle.redo_journal.specs.Places.{places_of, places_in, IsPlace}
 use Rattle.redo_journal.specs.Record.{RecordParts, IsRecordOf, ReadsBack, grammar, size_of, commits_of, record_bytes, spelled_with_gate}
-use Rattle.redo_journal.specs.Walk.{weights, taken}
+use Rattle.redo_journal.specs.Walk.{weights, bytes_taken}
 use Rattle.redo_journal.specs.declared.places.ImagePlace.{ImagePlace}
 use Rattle.redo_journal.specs.declared.kind.Kind.{Kind}
 use Rattle.redo_journal.specs.declared.kind.Kind.TheVariants.{Commit, Sweep}
@@ -105,7 +105,7 @@ module _ (j : JournalParts) (rs : List RecordParts) (new : RecordParts) (file : 
   size_is : size_of new ≡ (grammar j.pages).size new + 1
   size_is = omega (arith, grammar-size j.pages new)
 
-  gate_is : area_start j.area + first_gate + taken (grammar j.pages) rs + FRAME_SIZE ≡ gate + FRAME_SIZE
+  gate_is : area_start j.area + first_gate + bytes_taken (grammar j.pages) rs + FRAME_SIZE ≡ gate + FRAME_SIZE
   gate_is = omega (arith, h.end)
 
   places_after : j.places ++ places_of (gate + FRAME_SIZE) new.images ≡ places_in (area_start j.area + first_gate) (rs ++ new ∷ [])

@@ -4,8 +4,8 @@ use Rattle.std.proofs.lemmas.List.{take-take, length-take-le, drop-take, drop-dr
 use Rattle.std.proofs.lemmas.List.Sums.{sum_by-append}
 use Rattle.disk_trait.specs.Disk.{piece, written, Torn}
 use Rattle.disk_trait.specs.NoteLaws.{length-written, torn_written}
-use Rattle.redo_journal.specs.Walk.{Grammar, taken, weights}
-use Rattle.redo_journal.specs.Area.{Holds, HoldsBeforeOrAfter, IsStaged, area_start, area_of}
+use Rattle.redo_journal.specs.Walk.{Grammar, bytes_taken, weights}
+use Rattle.redo_journal.specs.Area.{AreaHolds, HoldsBeforeOrAfter, IsStaged, area_start, area_of}
 use Rattle.redo_journal.specs.Gated.{TornBehind, behind_open}
 use Rattle.redo_journal.proofs.WalkLaws.{IsLocal, taken-cons, weights-cons}
 use Rattle.redo_journal.proofs.AreaLaws.{behind_closed, gate_open, gate_either}
@@ -41,8 +41,8 @@ pub drop-written : (at : ℕ) (bytes old : List ℕ) → at + length bytes ≤ l
 drop-written at bytes old fits =
     ap (λ (l : List ℕ). drop at l) (append_assoc (take at old) bytes (drop (at + length bytes) old)) ∙ drop_at (take at old) (bytes ++ drop (at + length bytes) old) at (length-take-le at old (omega arith))
 
-module _ {R : Type 0} (g : Grammar R) (l : IsLocal g) (area base : ℕ) (rs : List R) (file : List ℕ) (h : Holds g area base rs file) (n : ℕ) (is : n ≡ 8 + taken g rs) where
-  pub still_before : (gate k : ℕ) (f : List ℕ) → gate ≡ area_start area + n → n < AREA_SIZE → Torn (gate + 1) k file f → Holds g area base rs f
+module _ {R : Type 0} (g : Grammar R) (l : IsLocal g) (area base : ℕ) (rs : List R) (file : List ℕ) (h : AreaHolds g area base rs file) (n : ℕ) (is : n ≡ 8 + bytes_taken g rs) where
+  pub still_before : (gate k : ℕ) (f : List ℕ) → gate ≡ area_start area + n → n < AREA_SIZE → Torn (gate + 1) k file f → AreaHolds g area base rs f
   still_before gate k f gate_is inside torn = record {
     long = omega (arith, h.long, torn.same_length);
     reads = behind_closed g l (area_start area) base rs (area_of area file) h.reads n (area_of area f) is
@@ -99,7 +99,7 @@ module _ {R : Type 0} (g : Grammar R) (l : IsLocal g) (area base : ℕ) (rs : Li
     at_any_moment f (inr torn) = either f torn
 
     -- and in the end the gate is open
-    pub in_the_end : (f : List ℕ) → f ≡ behind_open gate bytes file → Holds g area base (rs ++ new ∷ []) f
+    pub in_the_end : (f : List ℕ) → f ≡ behind_open gate bytes file → AreaHolds g area base (rs ++ new ∷ []) f
     in_the_end f f_is =
         let within : gate + length {A = ℕ} (1 ∷ []) ≤ length two = omega (arith, length-written (gate + 1) bytes file fits, fits) in
         let torn : Torn gate 1 two f = subst (λ (x : List ℕ). Torn gate 1 two x) (sym f_is) (torn_written gate (1 ∷ []) two within) in
@@ -113,12 +113,12 @@ module _ {R : Type 0} (g : Grammar R) (l : IsLocal g) (area base : ℕ) (rs : Li
 -- ---- what the journal counts
 
 module _ {R : Type 0} (g : Grammar R) where
-  pub taken-push : (rs : List R) (new : R) → taken g (rs ++ new ∷ []) ≡ taken g rs + (g.size new + 1)
+  pub taken-push : (rs : List R) (new : R) → bytes_taken g (rs ++ new ∷ []) ≡ bytes_taken g rs + (g.size new + 1)
   taken-push rs new = omega (arith, sum_by-append (λ q. g.size q + 1) rs (new ∷ []), taken-cons g new [])
 
   pub weights-push : (rs : List R) (new : R) → weights g (rs ++ new ∷ []) ≡ weights g rs + g.weight new
   weights-push rs new = omega (arith, sum_by-append g.weight rs (new ∷ []), weights-cons g new [])
 
-  pub end_after : (rs : List R) (new : R) (done end need : ℕ) (bytes : List ℕ) → end ≡ 8 + taken g rs → IsStaged g done new bytes → need ≡ length bytes → end + need ≡ 8 + taken g (rs ++ new ∷ [])
+  pub end_after : (rs : List R) (new : R) (done end need : ℕ) (bytes : List ℕ) → end ≡ 8 + bytes_taken g rs → IsStaged g done new bytes → need ≡ length bytes → end + need ≡ 8 + bytes_taken g (rs ++ new ∷ [])
   end_after rs new done end need bytes end_is staged need_is =
       omega (arith, end_is, need_is, taken-push rs new, ap length staged.ends, length-append staged.body (0 ∷ []), staged.size)

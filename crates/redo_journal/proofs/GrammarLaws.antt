@@ -6,7 +6,7 @@ use Rattle.std.proofs.lemmas.List.{take-take, drop-take, get_or-take}
 use Rattle.page_image.specs.Pages.{PageParts}
 use Rattle.redo_journal.specs.Record.{RecordParts, image_at, images_at, kind_at, is_count, count_at, record_at, grammar, commits_of, commits_in}
 use Rattle.redo_journal.specs.Results.{◌>>=◌}
-use Rattle.redo_journal.specs.Judging.{IsFaultIn}
+use Rattle.redo_journal.specs.Judging.{IsAreaFaultIn}
 use Rattle.redo_journal.specs.declared.kind.Kind.{Kind}
 use Rattle.redo_journal.specs.declared.faults.AreaFault.{AreaFault}
 use Rattle.redo_journal.specs.declared.faults.AreaFault.TheVariants.{DiskFault, BadRecord, Memory}
@@ -126,19 +126,19 @@ unfolding record_at
 record_read pages place done bytes kind count images k n i = rw (k, n, i) refl
 
 -- the fault of a record, at its kind, at its count and at its pages
-pub kind_fault : (pages place done : ℕ) (bytes : List ℕ) (fault : AreaFault) → IsFaultIn (kind_at place done (get_or bytes 0 0)) fault → IsFaultIn (record_at pages place done bytes) fault
+pub kind_fault : (pages place done : ℕ) (bytes : List ℕ) (fault : AreaFault) → IsAreaFaultIn (kind_at place done (get_or bytes 0 0)) fault → IsAreaFaultIn (record_at pages place done bytes) fault
 unfolding record_at
 kind_fault pages place done bytes DiskFault is = is
 kind_fault pages place done bytes (BadRecord at) is = rw is refl
 kind_fault pages place done bytes Memory is = is
 
-pub count_fault : (pages place done : ℕ) (bytes : List ℕ) (kind : Kind) (fault : AreaFault) → kind_at place done (get_or bytes 0 0) ≡ Ok kind → IsFaultIn (count_at (place + 1) kind (length bytes) (from_be_bytes w32 (take 4 (drop 1 bytes)))) fault → IsFaultIn (record_at pages place done bytes) fault
+pub count_fault : (pages place done : ℕ) (bytes : List ℕ) (kind : Kind) (fault : AreaFault) → kind_at place done (get_or bytes 0 0) ≡ Ok kind → IsAreaFaultIn (count_at (place + 1) kind (length bytes) (from_be_bytes w32 (take 4 (drop 1 bytes)))) fault → IsAreaFaultIn (record_at pages place done bytes) fault
 unfolding record_at
 count_fault pages place done bytes kind DiskFault k is = is
 count_fault pages place done bytes kind (BadRecord at) k is = rw (k, is) refl
 count_fault pages place done bytes kind Memory k is = is
 
-pub pages_fault : (pages place done : ℕ) (bytes : List ℕ) (kind : Kind) (count : ℕ) (fault : AreaFault) → kind_at place done (get_or bytes 0 0) ≡ Ok kind → count_at (place + 1) kind (length bytes) (from_be_bytes w32 (take 4 (drop 1 bytes))) ≡ Ok count → IsFaultIn (images_at pages (place + 5) 0 count (drop 5 bytes)) fault → IsFaultIn (record_at pages place done bytes) fault
+pub pages_fault : (pages place done : ℕ) (bytes : List ℕ) (kind : Kind) (count : ℕ) (fault : AreaFault) → kind_at place done (get_or bytes 0 0) ≡ Ok kind → count_at (place + 1) kind (length bytes) (from_be_bytes w32 (take 4 (drop 1 bytes))) ≡ Ok count → IsAreaFaultIn (images_at pages (place + 5) 0 count (drop 5 bytes)) fault → IsAreaFaultIn (record_at pages place done bytes) fault
 unfolding record_at
 pages_fault pages place done bytes kind count DiskFault k n is = is
 pages_fault pages place done bytes kind count (BadRecord at) k n is = rw (k, n, is) refl

@@ -5,7 +5,7 @@ use Rattle.std.proofs.lemmas.Bool.{le-leb, lt-leb, lt-ltb, le-ltb, eq-eqb, ne_eq
 use Rattle.page_image.specs.Pages.{PageParts}
 use Rattle.page_image.specs.Fields.{page_at}
 use Rattle.redo_journal.specs.Results.{from_place}
-use Rattle.redo_journal.specs.Judging.{IsFaultIn}
+use Rattle.redo_journal.specs.Judging.{IsAreaFaultIn}
 use Rattle.redo_journal.specs.Record.{image_at}
 use Rattle.redo_journal.specs.declared.faults.AreaFault.{AreaFault}
 use Rattle.redo_journal.specs.declared.faults.AreaFault.TheVariants.{DiskFault, BadRecord, Memory}
@@ -33,7 +33,7 @@ pub image_bad : (pages place low wrong : ℕ) (bytes : List ℕ) → low ≤ num
 unfolding image_at
 image_bad pages place low wrong bytes le lt bad = rw (in_range low pages (number_in bytes) le lt, bad) refl
 
-pub image_fault : (pages place low : ℕ) (bytes : List ℕ) (fault : AreaFault) → low ≤ number_in bytes → number_in bytes < pages → IsFaultIn (from_place (place + 4) (page_at (take PAGE_SIZE (drop 4 bytes)))) fault → IsFaultIn (image_at pages place low bytes) fault
+pub image_fault : (pages place low : ℕ) (bytes : List ℕ) (fault : AreaFault) → low ≤ number_in bytes → number_in bytes < pages → IsAreaFaultIn (from_place (place + 4) (page_at (take PAGE_SIZE (drop 4 bytes)))) fault → IsAreaFaultIn (image_at pages place low bytes) fault
 image_fault pages place low bytes DiskFault le lt is = is
 image_fault pages place low bytes (BadRecord at) le lt is = image_bad pages place low at bytes le lt is
 image_fault pages place low bytes Memory le lt is = is

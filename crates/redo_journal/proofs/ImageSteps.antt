@@ -4,7 +4,7 @@ use Rattle.std.proofs.lemmas.List.{append-nil}
 use Rattle.page_image.specs.Pages.{PageParts}
 use Rattle.redo_journal.specs.Results.{◌>>=◌}
 use Rattle.redo_journal.specs.Walk.{with_front}
-use Rattle.redo_journal.specs.Judging.{IsFaultIn}
+use Rattle.redo_journal.specs.Judging.{IsAreaFaultIn}
 use Rattle.redo_journal.specs.Record.{image_at, images_at}
 use Rattle.redo_journal.specs.declared.faults.AreaFault.{AreaFault}
 use Rattle.redo_journal.specs.declared.faults.AreaFault.TheVariants.{DiskFault, BadRecord, Memory}
@@ -26,7 +26,7 @@ unfolding images_at
 images_wrong front pages place low zero bytes wrong some is = absurd (omega arith)
 images_wrong front pages place low (suc n) bytes wrong some is = rw is refl
 
-pub images_fault : (front : List PageParts) (pages place low n : ℕ) (bytes : List ℕ) (fault : AreaFault) → 0 < n → IsFaultIn (image_at pages place low bytes) fault → IsFaultIn (with_front front (images_at pages place low n bytes)) fault
+pub images_fault : (front : List PageParts) (pages place low n : ℕ) (bytes : List ℕ) (fault : AreaFault) → 0 < n → IsAreaFaultIn (image_at pages place low bytes) fault → IsAreaFaultIn (with_front front (images_at pages place low n bytes)) fault
 images_fault front pages place low n bytes DiskFault some is = is
 images_fault front pages place low n bytes (BadRecord at) some is = images_wrong front pages place low n bytes at some is
 images_fault front pages place low n bytes Memory some is = is

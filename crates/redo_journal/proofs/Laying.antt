@@ -7,7 +7,7 @@ use Rattle.std.specs.List.Sorted.{IsStrictlyIncreasing}
 use Rattle.std.proofs.lemmas.Bool.{ne_eqb, eqb-true, cases_Bool}
 use Rattle.page_image.specs.Pages.{PageParts}
 use Rattle.redo_journal.specs.Record.{numbers_of}
-use Rattle.redo_journal.specs.Replays.{later, last_image, image_of, AreLatest, IsLaidOver}
+use Rattle.redo_journal.specs.Replays.{later, last_image, image_among, AreLatest, IsLaidOver}
 use Rattle.redo_journal.proofs.LastImages.{later-assoc, last-append}
 
 -- ---- ascending
@@ -82,15 +82,15 @@ passed p image page o lt =
       | inr is_not ↦ rw is_not refl
     ]
 
-pub laid_between : (front rest : List PageParts) (image : PageParts) (page : ℕ) → AreBelow image.number front → image_of (front ++ image ∷ rest) page ≡ later (only image page) (image_of (front ++ rest) page)
+pub laid_between : (front rest : List PageParts) (image : PageParts) (page : ℕ) → AreBelow image.number front → image_among (front ++ image ∷ rest) page ≡ later (only image page) (image_among (front ++ rest) page)
 laid_between [] rest image page below =
     elim (cases_Bool (eqb image.number page)) [
       | inl is_it ↦ rw is_it refl
       | inr is_not ↦ rw is_not refl
     ]
-laid_between (p ∷ front) rest image page below = ap (λ (o : Option PageParts). cond (eqb p.number page) (Some p) o) (laid_between front rest image page below.1) ∙ passed p image page (image_of (front ++ rest) page) below.0
+laid_between (p ∷ front) rest image page below = ap (λ (o : Option PageParts). cond (eqb p.number page) (Some p) o) (laid_between front rest image page below.1) ∙ passed p image page (image_among (front ++ rest) page) below.0
 
-pub laid_set : (xs : List PageParts) (at : ℕ) (image : PageParts) (page : ℕ) → at < length xs → get_or (numbers_of xs) at 0 ≡ image.number → AreBelow image.number (take at xs) → image_of (set xs at image) page ≡ later (only image page) (image_of xs page)
+pub laid_set : (xs : List PageParts) (at : ℕ) (image : PageParts) (page : ℕ) → at < length xs → get_or (numbers_of xs) at 0 ≡ image.number → AreBelow image.number (take at xs) → image_among (set xs at image) page ≡ later (only image page) (image_among xs page)
 laid_set [] at image page lt same below = absurd (omega (arith, lt))
 laid_set (p ∷ ps) zero image page lt same below =
     let is : p.number ≡ image.number = same in
@@ -98,12 +98,12 @@ laid_set (p ∷ ps) zero image page lt same below =
       | inl is_it ↦ rw is_it refl
       | inr is_not ↦ rw (is, is_not) refl
     ]
-laid_set (p ∷ ps) (suc at) image page lt same below = ap (λ (o : Option PageParts). cond (eqb p.number page) (Some p) o) (laid_set ps at image page (omega (arith, lt)) same below.1) ∙ passed p image page (image_of ps page) below.0
+laid_set (p ∷ ps) (suc at) image page lt same below = ap (λ (o : Option PageParts). cond (eqb p.number page) (Some p) o) (laid_set ps at image page (omega (arith, lt)) same below.1) ∙ passed p image page (image_among ps page) below.0
 
 -- ---- more and more
 
 -- over nothing each page has the last of them
-pub laid_first : (xs b : List PageParts) → IsLaidOver xs [] b → (page : ℕ) → image_of b page ≡ last_image xs page
+pub laid_first : (xs b : List PageParts) → IsLaidOver xs [] b → (page : ℕ) → image_among b page ≡ last_image xs page
 laid_first xs b laid page = laid page ∙ alone (last_image xs page)
   where
     alone : (o : Option PageParts) → later o None ≡ o
@@ -115,7 +115,7 @@ laid_nothing a page = refl
 
 pub laid_more : (xs ys a b c : List PageParts) → IsLaidOver xs a b → IsLaidOver ys b c → IsLaidOver (xs ++ ys) a c
 laid_more xs ys a b c first second page =
-    second page ∙ ap (λ (o : Option PageParts). later (last_image ys page) o) (first page) ∙ sym (ap (λ (o : Option PageParts). later o (image_of a page)) (last-append xs ys page) ∙ later-assoc (last_image ys page) (last_image xs page) (image_of a page))
+    second page ∙ ap (λ (o : Option PageParts). later (last_image ys page) o) (first page) ∙ sym (ap (λ (o : Option PageParts). later o (image_among a page)) (last-append xs ys page) ∙ later-assoc (last_image ys page) (last_image xs page) (image_among a page))
 
 -- ---- one image laid
 
@@ -130,7 +130,7 @@ module _ (pages : ℕ) (xs : List PageParts) (image : PageParts) (at : ℕ) (lat
           ascending = from_rises 0 (insert xs at image) (rises_between 0 (take at xs) (drop at xs) image (omega arith) front (back_from (image.number + 1) xs at (λ l. omega (arith, above l))) rises);
           below = below_between pages (take at xs) (drop at xs) image lt below;
         },
-        λ page. laid_between (take at xs) (drop at xs) image page front ∙ ap (λ (ys : List PageParts). later (only image page) (image_of ys page)) whole,
+        λ page. laid_between (take at xs) (drop at xs) image page front ∙ ap (λ (ys : List PageParts). later (only image page) (image_among ys page)) whole,
       )
 
   pub replaced : at < length xs → get_or (numbers_of xs) at 0 ≡ image.number → AreLatest pages (set xs at image) × IsLaidOver (image ∷ []) xs (set xs at image)

@@ -6,7 +6,7 @@ use Rattle.std.proofs.lemmas.List.Elements.{All-nil, All-cons}
 use Rattle.page_image.specs.Pages.{PageParts}
 use Rattle.redo_journal.specs.Places.{places_of, places_in, IsPlace, StandAt}
 use Rattle.redo_journal.specs.Record.{RecordParts, grammar, size_of}
-use Rattle.redo_journal.specs.Walk.{taken}
+use Rattle.redo_journal.specs.Walk.{bytes_taken}
 use Rattle.redo_journal.specs.declared.places.ImagePlace.{ImagePlace}
 use Rattle.redo_journal.proofs.GrammarLaws.{grammar-size}
 use Rattle.redo_journal.proofs.WalkLaws.{taken-cons}
@@ -33,15 +33,15 @@ noted_more from images p page at first old now now_is old_is page_is at_is =
     ∙ ap (λ (l : List ImagePlace). first ++ l) (ap (λ (x : ImagePlace). places_of from images ++ x ∷ []) same ∙ sym (places_push from images p))
 
 -- one record more
-pub places_more : (pages gate : ℕ) (records : List RecordParts) (r : RecordParts) → places_in gate (records ++ r ∷ []) ≡ places_in gate records ++ places_of (gate + taken (grammar pages) records + FRAME_SIZE) r.images
+pub places_more : (pages gate : ℕ) (records : List RecordParts) (r : RecordParts) → places_in gate (records ++ r ∷ []) ≡ places_in gate records ++ places_of (gate + bytes_taken (grammar pages) records + FRAME_SIZE) r.images
 places_more pages gate [] r =
-    let here : gate + FRAME_SIZE ≡ gate + taken (grammar pages) [] + FRAME_SIZE = omega arith in
+    let here : gate + FRAME_SIZE ≡ gate + bytes_taken (grammar pages) [] + FRAME_SIZE = omega arith in
     append-nil (places_of (gate + FRAME_SIZE) r.images) ∙ ap (λ (n : ℕ). places_of n r.images) here
 places_more pages gate (q ∷ qs) r =
     let first = places_of (gate + FRAME_SIZE) q.images in
-    let step : gate + size_of q + taken (grammar pages) qs + FRAME_SIZE ≡ gate + taken (grammar pages) (q ∷ qs) + FRAME_SIZE = omega (arith, taken-cons (grammar pages) q qs, grammar-size pages q) in
+    let step : gate + size_of q + bytes_taken (grammar pages) qs + FRAME_SIZE ≡ gate + bytes_taken (grammar pages) (q ∷ qs) + FRAME_SIZE = omega (arith, taken-cons (grammar pages) q qs, grammar-size pages q) in
     ap (λ (l : List ImagePlace). first ++ l) (places_more pages (gate + size_of q) qs r ∙ ap (λ (n : ℕ). places_in (gate + size_of q) qs ++ places_of n r.images) step)
-    ∙ sym (append_assoc first (places_in (gate + size_of q) qs) (places_of (gate + taken (grammar pages) (q ∷ qs) + FRAME_SIZE) r.images))
+    ∙ sym (append_assoc first (places_in (gate + size_of q) qs) (places_of (gate + bytes_taken (grammar pages) (q ∷ qs) + FRAME_SIZE) r.images))
 
 pub length-places : (from : ℕ) (images : List PageParts) → length (places_of from images) ≡ length images
 length-places from [] = refl

@@ -5,7 +5,7 @@ use Rattle.std.proofs.lemmas.Bool.{le-ltb}
 use Rattle.std.proofs.lemmas.Nat.{from_be_bytes-to_be_bytes_8}
 use Rattle.disk_trait.specs.Disk.{written}
 use Rattle.disk_trait.specs.NoteLaws.{length-written}
-use Rattle.redo_journal.specs.Area.{Holds, read_area, area_of, area_start, base_in, first_gate}
+use Rattle.redo_journal.specs.Area.{AreaHolds, read_area, area_of, area_start, base_in, first_gate}
 use Rattle.redo_journal.specs.Journals.{JournalParts, HoldsFor}
 use Rattle.redo_journal.specs.Record.{grammar}
 use Rattle.redo_journal.specs.Sending.{empty_area}
@@ -25,7 +25,7 @@ empty_front : (base : ℕ) (rest : List ℕ) → take AREA_SIZE (empty_area base
 empty_front base rest = refl
 
 empty_holds : {R : Type 0} (g : Grammar R) (area base : ℕ) (file : List ℕ) → base ≤ MOST_COUNTED → area_start area + AREA_SIZE ≤ length file
-    → Holds g area base [] (written (area_start area) (empty_area base) file)
+    → AreaHolds g area base [] (written (area_start area) (empty_area base) file)
 empty_holds g area base file small long =
     let start = area_start area in
     let rest = drop (start + length (empty_area base)) file in

@@ -37,14 +37,14 @@ abbrev pub area_of : ℕ → List ℕ → List ℕ
 area_of area file = piece (area_start area) AREA_SIZE file
 
 -- the file's area has this base and these records
-pub record Holds {R : Type 0} (g : Grammar R) (area base : ℕ) (records : List R) (file : List ℕ) : Type 0 where
+pub record AreaHolds {R : Type 0} (g : Grammar R) (area base : ℕ) (records : List R) (file : List ℕ) : Type 0 where
   pub long : area_start area + AREA_SIZE ≤ length file
   pub reads : read_area g (area_start area) (area_of area file) ≡ Ok (record { base = base; records = records })
 
 -- the records before, with the new one or without
 abbrev pub HoldsBeforeOrAfter : {R : Type 0} → Grammar R → ℕ → ℕ → List R → R → List ℕ → Type 0
-HoldsBeforeOrAfter g area base records new file = Holds g area base records file
-    ⊎ Holds g area base (records ++ new ∷ []) file
+HoldsBeforeOrAfter g area base records new file = AreaHolds g area base records file
+    ⊎ AreaHolds g area base (records ++ new ∷ []) file
 
 -- Bytes that are a record with its closed gate, which may stand behind `done` commits.
 pub record IsStaged {R : Type 0} (g : Grammar R) (done : ℕ) (new : R) (bytes : List ℕ) : Type 0 where

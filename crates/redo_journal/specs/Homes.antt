@@ -4,7 +4,7 @@ use Rattle.disk_trait.specs.Disk.{piece}
 use Rattle.page_image.specs.Pages.{PageParts}
 use Rattle.page_image.specs.Fields.{page_at}
 use Rattle.redo_journal.specs.Record.{RecordParts}
-use Rattle.redo_journal.specs.Replays.{images_in, last_image, is_among}
+use Rattle.redo_journal.specs.Replays.{images_in, last_image, has_image}
 use Rattle.redo_journal.specs.declared.sizes.TheConstants.{HOMES_START, PAGE_SIZE}
 
 -- where the home of a page begins in the store file
@@ -30,7 +30,7 @@ pub record DiffersInHomes (named : ℕ → Bool) (old new : List ℕ) : Type 0 w
 
 -- each page among the images has the last of them at home, and all else is as before
 pub record AreHome (images : List PageParts) (old new : List ℕ) : Type 0 where
-  pub elsewhere : DiffersInHomes (is_among images) old new
+  pub elsewhere : DiffersInHomes (has_image images) old new
   pub homes : (page : ℕ) (p : PageParts) → last_image images page ≡ Some p → page_at (home_of page new) ≡ Ok p
 
 -- each home that a record names holds its last image, and all else is as before

@@ -3,10 +3,10 @@ use Rattle.std.specs.Prelude.{◌≡◌, ℕ, ◌+◌, ◌-◌, ◌*◌, ◌≤�
 use Rattle.std.specs.List.{All}
 use Rattle.disk_trait.specs.Disk.{Torn}
 use Rattle.page_image.specs.Pages.{PageParts}
-use Rattle.redo_journal.specs.Area.{Holds, HoldsBeforeOrAfter, area_start, first_gate}
+use Rattle.redo_journal.specs.Area.{AreaHolds, HoldsBeforeOrAfter, area_start, first_gate}
 use Rattle.redo_journal.specs.Places.{IsPlace, places_of, places_in}
 use Rattle.redo_journal.specs.Record.{RecordParts, IsRecordOf, grammar, size_of, commits_of, with_image}
-use Rattle.redo_journal.specs.Walk.{taken, weights}
+use Rattle.redo_journal.specs.Walk.{bytes_taken, weights}
 use Rattle.redo_journal.specs.declared.kind.Kind.{Kind}
 use Rattle.redo_journal.specs.declared.places.ImagePlace.{ImagePlace}
 use Rattle.redo_journal.specs.declared.sizes.TheConstants.{AREA_SIZE, IMAGE_SIZE, FRAME_SIZE}
@@ -40,8 +40,8 @@ pub record IsJournal (journal : JournalParts) : Type 0 where
 
 -- the journal's area on the file has its base and these records, whose images stand at the journal's places
 pub record HoldsFor (journal : JournalParts) (records : List RecordParts) (file : List ℕ) : Type 0 where
-  pub holds : Holds (grammar journal.pages) journal.area journal.base records file
-  pub end : journal.end ≡ first_gate + taken (grammar journal.pages) records
+  pub holds : AreaHolds (grammar journal.pages) journal.area journal.base records file
+  pub end : journal.end ≡ first_gate + bytes_taken (grammar journal.pages) records
   pub commits : journal.commits ≡ weights (grammar journal.pages) records
   pub places : journal.places ≡ places_in (area_start journal.area + first_gate) records
 
@@ -63,8 +63,8 @@ abbrev pub begun : Kind → JournalParts → JournalParts
 begun kind journal = record journal { staged = Some (record { kind = kind; images = [] }) }
 
 -- the journal with one page more staged
-abbrev pub with_page : PageParts → JournalParts → JournalParts
-with_page image journal = record journal { staged = option_map (with_image image) journal.staged }
+abbrev pub with_staged : PageParts → JournalParts → JournalParts
+with_staged image journal = record journal { staged = option_map (with_image image) journal.staged }
 
 -- the journal after a record
 abbrev pub appended : RecordParts → JournalParts → JournalParts

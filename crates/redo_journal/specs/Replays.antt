@@ -22,16 +22,16 @@ last_image [] page = None
 last_image (p ∷ ps) page = later (last_image ps page) (if p.number == page then Some p else None)
 
 -- one of the images is of this page
-abbrev pub is_among : List PageParts → ℕ → Bool
-is_among images page = is_some (last_image images page)
+abbrev pub has_image : List PageParts → ℕ → Bool
+has_image images page = is_some (last_image images page)
 
 -- a record names the page
 abbrev pub is_named : List RecordParts → ℕ → Bool
-is_named records page = is_among (images_in records) page
+is_named records page = has_image (images_in records) page
 
 -- the image of a page among images of which each page has at most one
-abbrev pub image_of : List PageParts → ℕ → Option PageParts
-image_of images page = find (λ p. p.number == page) images
+abbrev pub image_among : List PageParts → ℕ → Option PageParts
+image_among images page = find (λ p. p.number == page) images
 
 -- images of pages below a count, at most one of each, ascending
 pub record AreLatest (pages : ℕ) (images : List PageParts) : Type 0 where
@@ -40,13 +40,13 @@ pub record AreLatest (pages : ℕ) (images : List PageParts) : Type 0 where
 
 -- images laid over others: each page has the last of them, or else what it had
 abbrev pub IsLaidOver : List PageParts → List PageParts → List PageParts → Type 0
-IsLaidOver images old new = (page : ℕ) → image_of new page ≡ later (last_image images page) (image_of old page)
+IsLaidOver images old new = (page : ℕ) → image_among new page ≡ later (last_image images page) (image_among old page)
 
 -- The replay of these records: their commits, and the last image of each page that they name, ascending.
 pub record IsReplay (records : List RecordParts) (replay : Replay) : Type 0 where
   pub commits : replay.commits ≡ commits_in records
   pub ascending : IsStrictlyIncreasing (numbers_of replay.images.items)
-  pub each : (page : ℕ) → image_of replay.images.items page ≡ last_image (images_in records) page
+  pub each : (page : ℕ) → image_among replay.images.items page ≡ last_image (images_in records) page
 
 -- a replay for this journal, whatever was read
 pub record IsReplayFor (journal : JournalParts) (replay : Replay) : Type 0 where

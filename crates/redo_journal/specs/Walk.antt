@@ -30,8 +30,8 @@ walk g place done zero (gate ∷ bytes) =
     (λ r. walk g (place + 1) (done + g.weight r) (g.size r) bytes) else Ok []
 
 -- how many bytes the records take with their gates
-abbrev pub taken : {R : Type 0} → Grammar R → List R → ℕ
-taken g records = sum_by (λ r. g.size r + 1) records
+abbrev pub bytes_taken : {R : Type 0} → Grammar R → List R → ℕ
+bytes_taken g records = sum_by (λ r. g.size r + 1) records
 
 -- how many commits there are among them
 abbrev pub weights : {R : Type 0} → Grammar R → List R → ℕ

@@ -3,7 +3,7 @@ ghost use Rattle.std.specs.Prelude.{◌≡◌, ◌≤◌, ◌<◌, ◌+◌, ◌*
 ghost use Rattle.std.specs.Int.{w32, from_be_bytes};
 ghost use Rattle.page_image.specs.Fields.{page_at};
 ghost use Rattle.redo_journal.specs.Area.{base_in};
-ghost use Rattle.redo_journal.specs.Judging.{Gives};
+ghost use Rattle.redo_journal.specs.Judging.{AreaGives};
 ghost use Rattle.redo_journal.specs.Record.{is_count, kind_at, count_at, image_at};
 ghost use Rattle.redo_journal.specs.Results.{from_place};
 ghost use Rattle.redo_journal.specs.declared.kind.Kind.TheVariants.{Commit};
@@ -34,7 +34,7 @@ fn u32_of(bytes: &[u8]) -> u32
 /// The kind of a record that stands behind so many commits.
 #[tactic(auto, unfolding(crate::specs::Record::kind_at))]
 pub(crate) fn kind_of(byte: u8, place: u64, done: u64) -> Result<Kind, AreaFault>
-    ensures value { Gives (kind_at place done byte) result }
+    ensures value { AreaGives (kind_at place done byte) result }
     ensures unspent { IfOk result (λ kind. kind ≡ Commit → done < MOST_COUNTED) }
 {
     match byte {
@@ -57,7 +57,7 @@ fn is_right(kind: Kind, count: u32) -> bool
 /// The count of a record, from the bytes of its kind on.
 pub(crate) fn count_of(bytes: &[u8], kind: Kind, place: u64) -> Result<u32, AreaFault>
     requires { 1 ≤ length bytes.now }
-    ensures value { Gives (count_at place kind (length bytes.now) (from_be_bytes w32 (take 4 (drop 1 bytes.now)))) result }
+    ensures value { AreaGives (count_at place kind (length bytes.now) (from_be_bytes w32 (take 4 (drop 1 bytes.now)))) result }
     ensures room { IfOk result (λ count. FRAME_SIZE + IMAGE_SIZE * count ≤ length bytes.now) }
     ensures few { IfOk result (λ count. count ≤ MOST_WRITTEN) }
 {
@@ -76,7 +76,7 @@ pub(crate) fn count_of(bytes: &[u8], kind: Kind, place: u64) -> Result<u32, Area
 fn page_of(bytes: &[u8], place: u64) -> Result<Page, AreaFault>
     requires long { PAGE_SIZE ≤ length bytes.now }
     requires small { place < 2 ^ 41 }
-    ensures { Gives (from_place place (page_at (take PAGE_SIZE bytes.now))) result }
+    ensures { AreaGives (from_place place (page_at (take PAGE_SIZE bytes.now))) result }
 {
     let mut image = [0; PAGE_SIZE];
     image.copy_from_slice(bytes.split_at(PAGE_SIZE).0);
@@ -92,7 +92,7 @@ fn page_of(bytes: &[u8], place: u64) -> Result<Page, AreaFault>
 pub(crate) fn image_of(bytes: &[u8], pages: u32, place: u64, low: u32) -> Result<Page, AreaFault>
     requires long { IMAGE_SIZE ≤ length bytes.now }
     requires small { place < 2 ^ 40 }
-    ensures value { Gives (image_at pages place low bytes.now) result }
+    ensures value { AreaGives (image_at pages place low bytes.now) result }
     ensures below { IfOk result (λ page. page.number < pages) }
 {
     let number = u32_of(bytes);

@@ -9,7 +9,7 @@ ghost use Rattle.redo_journal.specs.Homes.{store_size, home_start, DiffersInHome
 ghost use Rattle.redo_journal.specs.Journals.{HoldsFor, IsOn};
 ghost use Rattle.redo_journal.specs.Places.{StandAt};
 ghost use Rattle.redo_journal.specs.Record.{RecordParts};
-ghost use Rattle.redo_journal.specs.Replays.{is_among, is_named};
+ghost use Rattle.redo_journal.specs.Replays.{has_image, is_named};
 ghost use Rattle.redo_journal.specs.Sending.{After, ChangesHomes};
 
 use crate::journal::Journal;
@@ -47,7 +47,7 @@ fn send_images<D: Disk>(disk: &mut D, places: &[ImagePlace]) -> Result<(), Faile
     ensures sent { OnOk result ((c : List ℕ) (images : List PageParts) → D.content disk.old ≡ Some c → StandAt places.now images c
         → IsSomeAnd (D.content disk.new) (AreHome images c)) }
     ensures homes { (c : List ℕ) (images : List PageParts) → D.content disk.old ≡ Some c → StandAt places.now images c
-        → ChangesHomes D.Disk (is_among images) disk.old disk.new }
+        → ChangesHomes D.Disk (has_image images) disk.old disk.new }
     ensures keeps { KeepsDisk D.Disk disk.old disk.new }
     ensures fault { OnErr result (Rose (D.fault_count disk.old) (D.fault_count disk.new)) }
     ensures calm { OnOk result (D.fault_count disk.new ≡ D.fault_count disk.old) }
@@ -69,7 +69,7 @@ fn send_and_sync<D: Disk>(disk: &mut D, places: &[ImagePlace]) -> Result<(), Fai
         → IsSomeAnd (D.content disk.new) (AreHome images c)) }
     ensures synced { OnOk result (IsSynced (D.content disk.new) (D.may_leave disk.new)) }
     ensures homes { (c : List ℕ) (images : List PageParts) → D.content disk.old ≡ Some c → StandAt places.now images c
-        → ChangesHomes D.Disk (is_among images) disk.old disk.new }
+        → ChangesHomes D.Disk (has_image images) disk.old disk.new }
     ensures keeps { KeepsDisk D.Disk disk.old disk.new }
     ensures fault { OnErr result (Rose (D.fault_count disk.old) (D.fault_count disk.new)) }
     ensures calm { OnOk result (D.fault_count disk.new ≡ D.fault_count disk.old) }

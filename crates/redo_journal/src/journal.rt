@@ -5,7 +5,7 @@ ghost use Rattle.disk_trait.specs.Disk.{Only, IsSynced};
 ghost use Rattle.disk_trait.specs.DiskFacts.{LeavesOnly, OnlyReads, KeepsDisk};
 ghost use Rattle.redo_journal.specs.Area.{area_start, area_of, read_area};
 ghost use Rattle.redo_journal.specs.Homes.{store_size};
-ghost use Rattle.redo_journal.specs.Journals.{JournalParts, HoldsFor, IsOn, need_of, left_of, begun, with_page, appended, IsAppendedOrNot, IsAppended};
+ghost use Rattle.redo_journal.specs.Journals.{JournalParts, HoldsFor, IsOn, need_of, left_of, begun, with_staged, appended, IsAppendedOrNot, IsAppended};
 ghost use Rattle.redo_journal.specs.Record.{RecordParts, IsRecordOf, grammar, with_image};
 ghost use Rattle.redo_journal.specs.Replays.{IsReplay, IsReplayFor};
 ghost use Rattle.redo_journal.specs.declared.kind.Kind.TheVariants.{Commit, Sweep};
@@ -158,7 +158,7 @@ impl Journal {
     /// write, and at most one of a sweep.
     pub fn stage_page(&mut self, image: &Page)
         requires { IsSomeAnd self.old.staged (λ r. IsRecordOf self.old.pages (with_image image.now r)) }
-        ensures { self.new ≡ with_page image.now self.old }
+        ensures { self.new ≡ with_staged image.now self.old }
     {
         self.images.push_reserved(*image);
     }

@@ -3,11 +3,11 @@ ghost use Rattle.std.specs.Prelude.{◌≡◌, ◌≤◌, ◌<◌, ◌+◌, ◌*
 ghost use Rattle.std.specs.List.{All};
 ghost use Rattle.page_image.specs.Pages.{PageParts};
 ghost use Rattle.redo_journal.specs.Area.{read_area, first_gate};
-ghost use Rattle.redo_journal.specs.Judging.{IsFaultIn};
+ghost use Rattle.redo_journal.specs.Judging.{IsAreaFaultIn};
 ghost use Rattle.redo_journal.specs.Places.{IsPlace, places_of, places_in};
 ghost use Rattle.redo_journal.specs.Record.{RecordParts, images_at, record_at, grammar, commits_in, commits_of};
 ghost use Rattle.redo_journal.specs.Replays.{AreLatest, IsLaidOver, images_in};
-ghost use Rattle.redo_journal.specs.Walk.{taken};
+ghost use Rattle.redo_journal.specs.Walk.{bytes_taken};
 ghost use Rattle.redo_journal.specs.declared.kind.Kind.TheVariants.{Commit};
 
 use crate::faults::AreaFault;
@@ -39,7 +39,7 @@ fn images_of(
         (λ _. (images : List PageParts) × (images_at pages place 0 count bytes.now ≡ Ok images) × (length images ≡ count)
         × IsLaidOver images latest.old.items latest.new.items × AreLatest pages latest.new.items
         × (places.new.items ≡ places.old.items ++ places_of place images))
-        (λ fault. IsFaultIn (images_at pages place 0 count bytes.now) fault) }
+        (λ fault. IsAreaFaultIn (images_at pages place 0 count bytes.now) fault) }
     ensures places { OnOk result (All (IsPlace pages) places.new.items) }
     ensures reserved { OnOk result (vec_capacity places.new ≡ vec_capacity places.old) }
 {
@@ -89,7 +89,7 @@ fn record_of(
         (λ head. (images : List PageParts) × (record_at pages place done bytes.now ≡ Ok (record { kind = head.kind; images = images })) × (length images ≡ head.count)
         × IsLaidOver images latest.old.items latest.new.items × AreLatest pages latest.new.items
         × (places.new.items ≡ places.old.items ++ places_of (place + 5) images))
-        (λ fault. IsFaultIn (record_at pages place done bytes.now) fault) }
+        (λ fault. IsAreaFaultIn (record_at pages place done bytes.now) fault) }
     ensures places { OnOk result (All (IsPlace pages) places.new.items) }
     ensures reserved { OnOk result (vec_capacity places.new ≡ vec_capacity places.old) }
     ensures room { IfOk result (λ head. FRAME_SIZE + IMAGE_SIZE * head.count ≤ length bytes.now) }
@@ -141,10 +141,10 @@ pub(crate) fn scan(
     ensures read { MatchResult result
         (λ found. (records : List RecordParts)
         × (read_area (grammar pages) start bytes.now ≡ Ok (record { base = found.replay.base; records = records }))
-        × (found.end ≡ first_gate + taken (grammar pages) records) × (found.replay.commits ≡ commits_in records)
+        × (found.end ≡ first_gate + bytes_taken (grammar pages) records) × (found.replay.commits ≡ commits_in records)
         × IsLaidOver (images_in records) [] found.replay.images.items
         × (found.places.items ≡ places_in (start + first_gate) records))
-        (λ fault. IsFaultIn (read_area (grammar pages) start bytes.now) fault) }
+        (λ fault. IsAreaFaultIn (read_area (grammar pages) start bytes.now) fault) }
 {
     let base = base_of(bytes);
     if base > MOST_COUNTED {

@@ -7,7 +7,7 @@ use Rattle.object_graph.specs.declared.limits.TheConstants.{MOST_PAGES, MOST_SLO
 use Rattle.object_graph.specs.NameParts.{NameParts, IsName}
 use Rattle.store_model.specs.Texts.{name_text}
 use Rattle.script_lang.specs.Words.{SpellsName}
-use Rattle.script_lang.specs.Reading.{Gives, if_none, whole_of, split_at, word_of, part_at, word_at, number_at, number_below, name_at}
+use Rattle.script_lang.specs.Reading.{ReadsAs, if_none, whole_of, split_at, part_before, part_at, word_at, number_at, number_below, name_at}
 use Rattle.script_lang.specs.Script.{spaced}
 use Rattle.script_lang.proofs.Numbers.{number_again}
 use Rattle.script_lang.proofs.Options.{some_is, bind_some, if_some}
@@ -31,7 +31,7 @@ ended_by b part (Some rest) = part ++ b ∷ rest
 part_whole : (b : ℕ) (bytes : List ℕ) → bytes ≡ ended_by b (part_at b bytes).0 (part_at b bytes).1
 part_whole b bytes = by_split (split_at b bytes) refl
   where
-    by_split : (o : Option (List ℕ × List ℕ)) → split_at b bytes ≡ o → bytes ≡ ended_by b (word_of bytes o).0 (word_of bytes o).1
+    by_split : (o : Option (List ℕ × List ℕ)) → split_at b bytes ≡ o → bytes ≡ ended_by b (part_before bytes o).0 (part_before bytes o).1
     by_split None e = refl
     by_split (Some p) e = split_whole b bytes p e
 
@@ -74,7 +74,7 @@ spaced_name name (Some rest) =
     ∙ ap (λ l. decimal name.page ++ 46 ∷ l) (append_assoc (decimal name.slot) (46 ∷ decimal name.generation) (32 ∷ rest))
 
 part_there : (n : ℕ) (rest : List ℕ) → n < 2 ^ 64 → part_at 46 (decimal n ++ 46 ∷ rest) ≡ (decimal n, Some rest)
-part_there n rest h = ap (word_of (decimal n ++ 46 ∷ rest)) (split_front 46 (decimal n) rest (decimal_free 46 n (omega arith) h))
+part_there n rest h = ap (part_before (decimal n ++ 46 ∷ rest)) (split_front 46 (decimal n) rest (decimal_free 46 n (omega arith) h))
 
 spelled_name : (bytes : List ℕ) (name : NameParts) (rest : Option (List ℕ)) → IsName name → bytes ≡ decimal name.page ++ 46 ∷ slot_on name rest → (word_at bytes).1 ≡ rest → HasName bytes name
 spelled_name bytes name rest h is last =
@@ -220,7 +220,7 @@ pub name_whole : {R : Type 0} (read : Option (NameParts × Option R)) (now : R �
 name_whole None now word none rest = whole_none name_at names word none
 name_whole (Some p) now word some rest = alone_or_not now word p.0 p.1 some rest
 
-pub gives_name : (word : List ℕ) (result : Option NameParts) → name_at word ≡ result → Gives (λ n. n) result (name_at word)
+pub gives_name : (word : List ℕ) (result : Option NameParts) → name_at word ≡ result → ReadsAs (λ n. n) result (name_at word)
 gives_name word None e = e
 gives_name word (Some name) e = e
 

@@ -16,7 +16,7 @@ use Rattle.store_desk.specs.Appended.{Appended, Did, DidClose, DidMark, IsOf, Is
 use Rattle.store_desk.specs.Chronicles.{IsKnown, IsChronicle}
 use Rattle.store_desk.specs.Events.{history, HasClosing}
 use Rattle.store_desk.specs.Seats.{AtDesk, Saw, Looked, Entered, Called, ClosedBy, MarkedBy}
-use Rattle.store_desk.specs.States.{State, IsKeptIn}
+use Rattle.store_desk.specs.States.{DeskParts, IsKeptIn}
 use Rattle.store_desk.specs.declared.event.Event.{Event}
 use Rattle.store_desk.proofs.Kept.{closing_in_more}
 
@@ -28,7 +28,7 @@ pub closing_found : {D : Type 0} (list : List Event) (start : Seen D) (s : AtDes
 closing_found list start s None found seen = tt
 closing_found list start s (Some m) found seen = subst (λ (xs : List Event). HasClosing xs m.cut) (sym found.begins.1) (closing_in_more s.seen found.begins.0 m.cut seen)
 
-module _ {D : Type 0} (disks : DiskOf D) (old new : AtDesk D) (x y : State D) (found : Finds x.chronicle x.start old) (is : new ≡ grown old x.chronicle y.chronicle) where
+module _ {D : Type 0} (disks : DiskOf D) (old new : AtDesk D) (x y : DeskParts D) (found : Finds x.chronicle x.start old) (is : new ≡ grown old x.chronicle y.chronicle) where
   saw_from : StartsWith y.chronicle x.chronicle → y.start ≡ x.start → IsKeptIn disks y → Saw disks old new
   saw_from more same kept =
       let told : IsKnown (disks.content x.start.disk) (history y.chronicle) → IsChronicle x.start.world y.chronicle =
@@ -67,7 +67,7 @@ module _ {D : Type 0} (disks : DiskOf D) (old new : AtDesk D) (x y : State D) (f
       }
 
   none_from : y ≡ x → IsKeptIn disks y → Looked disks old new
-  none_from same kept = looked_from (ap (λ (s : State D). s.chronicle) same) (ap (λ (s : State D). s.start) same) kept
+  none_from same kept = looked_from (ap (λ (s : DeskParts D). s.chronicle) same) (ap (λ (s : DeskParts D). s.start) same) kept
 
   pub called_from : (lane : ℕ) (call : Call) (result : Result (Reply × ℕ) Memory) → Did disks x y lane call result → Called disks old new lane call result
   called_from lane call (Ok r) did = entered_from (IsOf lane call r.0) r.1 did.event did.kept

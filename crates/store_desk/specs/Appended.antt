@@ -10,7 +10,7 @@ use Rattle.cut_core.specs.Calls.{IsBuilt}
 use Rattle.cut_core.specs.Given.{closed_reply}
 use Rattle.disk_trait.specs.declared.disk.Disk.{Ghosts as DiskOf}
 use Rattle.store_desk.specs.Events.{entry, Keeps}
-use Rattle.store_desk.specs.States.{State, IsKeptIn}
+use Rattle.store_desk.specs.States.{DeskParts, IsKeptIn}
 use Rattle.store_desk.specs.declared.event.Event.{Event}
 use Rattle.store_desk.specs.declared.event.Note.TheVariants.{Marks}
 
@@ -42,7 +42,7 @@ pub record IsMarkingOf (lane workers : ℕ) (marked : Option MarkedParts) (reply
 -- ---- one event more
 
 -- the chronicle has one event more, which says this, at this place
-pub record Appended {D : Type 0} (old new : State D) (Says : Event → Type 0) (place : ℕ) : Type 0 where
+pub record Appended {D : Type 0} (old new : DeskParts D) (Says : Event → Type 0) (place : ℕ) : Type 0 where
   pub event : Event
   pub says : Says event
   pub chronicle : new.chronicle ≡ old.chronicle ++ event ∷ []
@@ -52,19 +52,19 @@ pub record Appended {D : Type 0} (old new : State D) (Says : Event → Type 0) (
 
 -- ---- what a turn does
 
-pub record Did {D : Type 0} (disks : DiskOf D) (old new : State D) (lane : ℕ) (call : Call) (result : Result (Reply
+pub record Did {D : Type 0} (disks : DiskOf D) (old new : DeskParts D) (lane : ℕ) (call : Call) (result : Result (Reply
     × ℕ) Memory) : Type 0 where
   pub event : IfOk result (λ r. Appended old new (IsOf lane call r.0) r.1)
   pub none : OnErr result (new ≡ old)
   pub kept : IsKeptIn disks new
 
-pub record DidClose {D : Type 0} (disks : DiskOf D) (old new : State D) (lane : ℕ)
+pub record DidClose {D : Type 0} (disks : DiskOf D) (old new : DeskParts D) (lane : ℕ)
     (result : Result (Result ClosedParts Refusal × ℕ) Memory) : Type 0 where
   pub event : IfOk result (λ r. Appended old new (IsClosingOf lane r.0) r.1)
   pub none : OnErr result (new ≡ old)
   pub kept : IsKeptIn disks new
 
-pub record DidMark {D : Type 0} (disks : DiskOf D) (old new : State D) (lane workers : ℕ)
+pub record DidMark {D : Type 0} (disks : DiskOf D) (old new : DeskParts D) (lane workers : ℕ)
     (marked : Option MarkedParts) (result : Result (Reply × ℕ) (Option MarkedParts × Memory)) : Type 0 where
   pub event : IfOk result (λ r. Appended old new (IsMarkingOf lane workers marked r.0) r.1)
   pub none : OnErr result (new ≡ old)

@@ -16,7 +16,7 @@ use Rattle.store_desk.specs.Events.{history, HasClosing}
 use Rattle.store_desk.specs.declared.event.Event.{Event}
 
 -- the core as the desk was made and as it stands, the chronicle between, and for how many further entries there is room
-pub record State (D : Type 0) : Type 0 where
+pub record DeskParts (D : Type 0) : Type 0 where
   pub start : Seen D
   pub core : Seen D
   pub chronicle : List Event
@@ -41,5 +41,5 @@ pub record IsKept {D : Type 0} (disks : DiskOf D) (start core : Seen D) (chronic
       → Rose (disks.fault_count start.disk) (disks.fault_count core.disk)
 
 -- so it is of the state
-abbrev pub IsKeptIn : {D : Type 0} → DiskOf D → State D → Type 0
+abbrev pub IsKeptIn : {D : Type 0} → DiskOf D → DeskParts D → Type 0
 IsKeptIn disks s = IsKept disks s.start s.core s.chronicle

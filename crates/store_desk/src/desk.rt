@@ -37,9 +37,9 @@ pub struct Desk<D: Disk> {
 impl<D: Disk> Model for Desk<D> {
     ghost use Rattle.std.specs.Prelude.{◌≡◌};
     ghost use Rattle.turn_lock.specs.Seats.{Made};
-    ghost use Rattle.store_desk.specs.States.{State};
+    ghost use Rattle.store_desk.specs.States.{DeskParts};
 
-    ghost Value = { Made (State D) };
+    ghost Value = { Made (DeskParts D) };
 
     ghost view = { λ d. d.turn };
 

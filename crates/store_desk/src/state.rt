@@ -28,9 +28,9 @@ pub struct DeskState<D: Disk> {
 
 impl<D: Disk> Model for DeskState<D> {
     ghost use Rattle.std.specs.Prelude.{◌-◌, vec_capacity, vec_len};
-    ghost use Rattle.store_desk.specs.States.{State, IsKept};
+    ghost use Rattle.store_desk.specs.States.{DeskParts, IsKept};
 
-    ghost Value = { State D };
+    ghost Value = { DeskParts D };
 
     ghost view = { λ s. record { start = s.start.value; core = s.core; chronicle = s.chronicle.items; spare = vec_capacity s.chronicle - vec_len s.chronicle } };
 

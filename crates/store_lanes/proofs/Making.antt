@@ -13,7 +13,7 @@ use Rattle.object_graph.specs.Members.{In}
 use Rattle.object_graph.specs.Slots.{below}
 use Rattle.object_graph.proofs.Members.{append_right}
 use Rattle.disk_trait.specs.declared.disk.Disk.{Ghosts as DiskOf}
-use Rattle.store_model.specs.Causes.{marks_of}
+use Rattle.store_model.specs.Causes.{marks_number}
 use Rattle.store_model.specs.Worlds as model
 use Rattle.store_model.specs.Worlds.{World, OpenedCut}
 use Rattle.store_model.specs.Histories.{after, collection, is_refused}
@@ -35,7 +35,7 @@ use Rattle.store_desk.specs.declared.event.Note.{Note}
 use Rattle.store_desk.specs.declared.event.Note.TheVariants.{Marks}
 use Rattle.store_desk.proofs.Kept.{known_first, history-append, cut_at}
 use Rattle.store_lanes.specs.LaneScripts.{wishes_of}
-use Rattle.store_lanes.specs.Lanes.{Known, PartRan, WentOut, MarksRan, LineServed}
+use Rattle.store_lanes.specs.Lanes.{ReopeningsKnown, PartRan, WentOut, MarksRan, LineServed}
 use Rattle.store_lanes.specs.Owned.{part, OwnsLanes, own_part, Added}
 use Rattle.store_lanes.specs.Served.{ServesBy, IsOwnPart, call_on, is_plain, without_bool}
 use Rattle.store_lanes.specs.declared.collect.OnPage.TheVariants as on_page
@@ -46,7 +46,7 @@ pub starts_history : (xs ys : List Event) → StartsWith xs ys → StartsWith (h
 starts_history xs ys s = (history s.0, ap history s.1 ∙ history-append ys s.0)
 
 -- what is known of a longer chronicle is known of its beginning
-pub known_before : {D : Type 0} (disks : DiskOf D) (first : Seen D) (old new : AtDesk D) → StartsWith new.seen old.seen → Known disks first new → Known disks first old
+pub known_before : {D : Type 0} (disks : DiskOf D) (first : Seen D) (old new : AtDesk D) → StartsWith new.seen old.seen → ReopeningsKnown disks first new → ReopeningsKnown disks first old
 known_before disks first old new begins known =
     known_first (disks.content first.disk) (history old.seen) (history begins.0) (subst (IsKnown (disks.content first.disk)) (ap history begins.1 ∙ history-append old.seen begins.0) known)
 
@@ -135,7 +135,7 @@ module _ {D : Type 0} (disks : DiskOf D) (first : Seen D) (lane : ℕ) (old new 
       let m : WorldEvent = world_event_of first.world e.before e.event in
       let calls : e.event.entry.call ≡ Close = ap (λ en. en.call) e.says.of in
       let is_first : e.saw.first ≡ first = same_first e.saw.first first old.start e.saw.start start in
-      let told_by : Known disks first new → IsChronicle first.world new.seen = subst (λ (s : Seen D). IsKnown (disks.content s.disk) (history new.seen) → IsChronicle s.world new.seen) is_first e.saw.told in record {
+      let told_by : ReopeningsKnown disks first new → IsChronicle first.world new.seen = subst (λ (s : Seen D). IsKnown (disks.content s.disk) (history new.seen) → IsChronicle s.world new.seen) is_first e.saw.told in record {
         made = m ∷ [];
         added = added_entered disks first.world lane old new (IsClosingOf lane (Ok cut)) place e (ap (λ en. en.lane) e.says.of);
         passes = (calls, ap (λ en. is_refused en.reply) e.says.of, refl);
@@ -163,10 +163,10 @@ module _ {D : Type 0} (disks : DiskOf D) (first : Seen D) (lane : ℕ) (old new 
         made = m ∷ [];
         added = added_entered disks first.world lane old new (IsMarkingOf lane workers marked reply) place e (ap (λ en. en.lane) e.says.of);
         outcome = outcome_one (Mark workers) m b calls (done ∙ sym (ap (λ en. not (is_refused en.reply)) e.says.of));
-        own = λ before own closed. own_marks before m workers own calls (subst (λ (n : Note). IfSome (marks_of (note_in n)) (HasClosed before)) (sym e.says.note) (of_marks marked its before closed));
+        own = λ before own closed. own_marks before m workers own calls (subst (λ (n : Note). IfSome (marks_number (note_in n)) (HasClosed before)) (sym e.says.note) (of_marks marked its before closed));
       }
     where
-      of_marks : (marked : Option MarkedParts) → IfSome marked (λ m. m.cut.number ≡ number) → (before : List WorldEvent) → HasClosed before number → IfSome (marks_of (note_in (Marks (marked_number marked)))) (HasClosed before)
+      of_marks : (marked : Option MarkedParts) → IfSome marked (λ m. m.cut.number ≡ number) → (before : List WorldEvent) → HasClosed before number → IfSome (marks_number (note_in (Marks (marked_number marked)))) (HasClosed before)
       of_marks None its before closed = tt
       of_marks (Some m) its before closed = subst (HasClosed before) (sym its) closed
 

@@ -6,7 +6,7 @@ use Rattle.object_graph.specs.declared.calls.Call.TheVariants.{HandIn, Mark}
 use Rattle.object_graph.specs.declared.memory.Memory.{Memory}
 use Rattle.object_graph.specs.Members.{In}
 use Rattle.object_graph.proofs.Members.{each_in, each_from, in_append, append_left, append_right}
-use Rattle.store_model.specs.Causes.{marks_of}
+use Rattle.store_model.specs.Causes.{marks_number}
 use Rattle.store_model.specs.Histories.{is_refused}
 use Rattle.store_model.specs.Lanes.{WorldEvent, one_call, Serves, IsOwnLine, HandsInOwn, MarksOwn, ClosedCut}
 use Rattle.store_lanes.specs.Served.{ServesFront, ServesBy, Passes, Ends, Outcome, GivesOwn, IsOwnIn, IsOwnPart, is_plain, without_bool}
@@ -103,7 +103,7 @@ closed_more line more None f c = tt
 closed_more line more (Some n) f c = (c.0, f c.0 c.1, c.2, c.3)
 
 own_more : (line more : List WorldEvent) (m : WorldEvent) → ((c : WorldEvent) → In c line → In c more) → IsOwnIn line m → IsOwnIn more m
-own_more line more m f o = ⊎_elim (λ p. inl p) (λ (g : GivesOwn line m). inr (record { workers = g.workers; call = g.call; closed = closed_more line more (marks_of m.event.note) f g.closed })) o
+own_more line more m f o = ⊎_elim (λ p. inl p) (λ (g : GivesOwn line m). inr (record { workers = g.workers; call = g.call; closed = closed_more line more (marks_number m.event.note) f g.closed })) o
 
 -- two parts of a line in one
 pub own_both : (line more : List WorldEvent) → IsOwnPart line → IsOwnPart more → IsOwnPart (line ++ more)
@@ -112,11 +112,11 @@ own_both line more a b = each_from (IsOwnIn (line ++ more)) (line ++ more) (λ m
     (λ j. own_more more (line ++ more) m (λ c k. append_right line more c k) (each_in (IsOwnIn more) more m b j)) (in_append line more m i))
 
 -- marks after the closing of their cut
-pub own_marks : (line : List WorldEvent) (m : WorldEvent) (workers : ℕ) → IsOwnPart line → m.event.entry.call ≡ Mark workers → IfSome (marks_of m.event.note) (ClosedCut line) → IsOwnPart (line ++ m ∷ [])
+pub own_marks : (line : List WorldEvent) (m : WorldEvent) (workers : ℕ) → IsOwnPart line → m.event.entry.call ≡ Mark workers → IfSome (marks_number m.event.note) (ClosedCut line) → IsOwnPart (line ++ m ∷ [])
 own_marks line m workers a is closed = each_from (IsOwnIn (line ++ m ∷ [])) (line ++ m ∷ []) (λ x i. ⊎_elim
     (λ j. own_more line (line ++ m ∷ []) x (λ c k. append_left line (m ∷ []) c k) (each_in (IsOwnIn line) line x a j))
     (λ j. ⊎_elim (λ same. subst (IsOwnIn (line ++ m ∷ [])) (sym same)
-    (inr (record { workers = workers; call = is; closed = closed_more line (line ++ m ∷ []) (marks_of m.event.note) (λ c k. append_left line (m ∷ []) c k) closed }))) (λ none. absurd none) j)
+    (inr (record { workers = workers; call = is; closed = closed_more line (line ++ m ∷ []) (marks_number m.event.note) (λ c k. append_left line (m ∷ []) c k) closed }))) (λ none. absurd none) j)
     (in_append line (m ∷ []) x i))
 
 plain_own : (line : List WorldEvent) (m : WorldEvent) (call : Call) → is_plain call ≡ true → HandsInOwn line m call × MarksOwn line m call

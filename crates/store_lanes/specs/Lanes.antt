@@ -34,8 +34,8 @@ IsFor lane bytes None = (s : LaneLine) → SaysInLane bytes s.lane s.line → s.
 -- What follows speaks of a desk over a disk with these members, which was made with a core.
 module _ {D : Type 0} (disks : DiskOf D) (first : Seen D) where
   -- where it is known what the reopenings found
-  abbrev pub Known : AtDesk D → Type 0
-  Known seat = IsKnown (disks.content first.disk) (history seat.seen)
+  abbrev pub ReopeningsKnown : AtDesk D → Type 0
+  ReopeningsKnown seat = IsKnown (disks.content first.disk) (history seat.seen)
 
   -- ---- calls of a line
 
@@ -44,7 +44,7 @@ module _ {D : Type 0} (disks : DiskOf D) (first : Seen D) where
     pub made : List WorldEvent
     pub added : Added first.world lane old new made
     pub outcome : Outcome calls made result
-    pub own : Known new → IsOwnPart made
+    pub own : ReopeningsKnown new → IsOwnPart made
 
   -- the cut was closed and went out
   pub record WentOut (lane : ℕ) (old new : AtDesk D) (cut : ClosedParts) : Type 0 where
@@ -53,7 +53,7 @@ module _ {D : Type 0} (disks : DiskOf D) (first : Seen D) where
     pub passes : Passes (Close ∷ []) [] made
     pub own : IsOwnPart made
     pub closing : HasClosing new.seen cut
-    pub closed : Known new → HasClosed made cut.number
+    pub closed : ReopeningsKnown new → HasClosed made cut.number
 
   -- so it was, or the closing was refused, or there was no room
   abbrev pub ClosingRan : ℕ → AtDesk D → AtDesk D → Result (Option ClosedParts) Memory → Type 0
@@ -74,7 +74,7 @@ module _ {D : Type 0} (disks : DiskOf D) (first : Seen D) where
   pub record LineServed (lane : ℕ) (line : Line) (old new : AtDesk D) (result : Result (Unit {0}) Memory) : Type 0 where
     pub made : List WorldEvent
     pub added : Added first.world lane old new made
-    pub own : Known new → IsOwnLine made
+    pub own : ReopeningsKnown new → IsOwnLine made
     pub serves : ServesBy (wishes_of first.world.pages line) made result
 
   -- ---- lanes
@@ -85,7 +85,7 @@ module _ {D : Type 0} (disks : DiskOf D) (first : Seen D) where
     pub future : List LaneLine
     pub split : said ≡ past ++ future
     pub ahead : SayInLanes left future
-    pub follows : Known seat → FollowsLane (lines_of_lane first.world.pages lane past) (own_part first.world lane seat)
+    pub follows : ReopeningsKnown seat → FollowsLane (lines_of_lane first.world.pages lane past) (own_part first.world lane seat)
 
   -- a lane on its way
   pub record LaneGoes (all left : List (List ℕ)) (lane : ℕ) (seat : AtDesk D) : Type 0 where
@@ -98,7 +98,7 @@ module _ {D : Type 0} (disks : DiskOf D) (first : Seen D) where
     pub future : List LaneLine
     pub split : said ≡ past ++ future
     pub ended : IsTrue whole → future ≡ []
-    pub follows : Known seat → FollowsTo first.world.pages lane past future (own_part first.world lane seat)
+    pub follows : ReopeningsKnown seat → FollowsTo first.world.pages lane past future (own_part first.world lane seat)
 
   -- so it is of each of some lanes, whatever the lines say
   pub record LanesRan (all : List (List ℕ)) (low high : ℕ) (whole : Bool) (seat : AtDesk D) : Type 0 where

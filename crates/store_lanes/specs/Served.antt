@@ -4,7 +4,7 @@ use Rattle.std.specs.List.{AllByRecursion}
 use Rattle.object_graph.specs.declared.calls.Call.{Call}
 use Rattle.object_graph.specs.declared.calls.Call.TheVariants.{Copy, HandIn, Mark, Sweep}
 use Rattle.object_graph.specs.declared.memory.Memory.{Memory}
-use Rattle.store_model.specs.Causes.{marks_of}
+use Rattle.store_model.specs.Causes.{marks_number}
 use Rattle.store_model.specs.Histories.{is_refused}
 use Rattle.store_model.specs.Lanes.{WorldEvent, Wish, Grants, Serves, FollowsLane, IsOwnLine, ClosedCut}
 use Rattle.script_lang.specs.declared.line.LaneLine.{LaneLine}
@@ -77,7 +77,7 @@ is_plain call = true
 pub record GivesOwn (line : List WorldEvent) (m : WorldEvent) : Type 0 where
   pub workers : ℕ
   pub call : m.event.entry.call ≡ Mark workers
-  pub closed : IfSome (marks_of m.event.note) (ClosedCut line)
+  pub closed : IfSome (marks_number m.event.note) (ClosedCut line)
 
 abbrev pub IsOwnIn : List WorldEvent → WorldEvent → Type 0
 IsOwnIn line m = (is_plain m.event.entry.call ≡ true) ⊎ GivesOwn line m

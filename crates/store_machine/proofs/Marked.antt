@@ -15,7 +15,7 @@ use Rattle.store_model.specs.Steps.{after_refusal}
 use Rattle.cut_model.specs.Standing.{CutBeside}
 use Rattle.cut_builder.specs.CutParts.{ClosedParts, MarkedParts}
 use Rattle.cut_core.specs.Given.{mark_event}
-use Rattle.store_machine.specs.Kept.{IsKept}
+use Rattle.store_machine.specs.Kept.{IsKeptCut}
 
 -- the causes of a marking's refusal, over a world's break and cut
 abbrev first_of : Option ℕ → Option OpenedCut → Option ℕ → Option Refusal
@@ -68,7 +68,7 @@ taken None None n free why none k may r = k
 taken None (Some cut) n free why none k may r =
     let t : free ≡ true = subst (λ (x : Option Refusal). MatchOption x (free ≡ true) (λ first. why ≡ first)) (none_met cut n k.0 k.1) r in cc
 
-pub never_refused : (w : World) (b : CutBeside) (kept : ClosedParts) (back : MarkedParts × Refusal) → IsKept w b kept → ((count : ℕ) → Allows w (mark_event count None (Refused Memory)))
+pub never_refused : (w : World) (b : CutBeside) (kept : ClosedParts) (back : MarkedParts × Refusal) → IsKeptCut w b kept → ((count : ℕ) → Allows w (mark_event count None (Refused Memory)))
     → ((workers : ℕ) → Allows w (mark_event workers (Some kept.number) (Refused back.1))) → ⊥
 never_refused w b kept back k may allowed =
     taken w.broken w.cut kept.number (is_free (Mark 1) back.1) back.1 (not_free 1 back.1) k.closed (may 1).1 (allowed 1).1

@@ -16,7 +16,7 @@ use Rattle.object_graph.specs.declared.calls.Reply.{Reply}
 use Rattle.object_graph.specs.declared.calls.Reply.TheVariants.{Done, Cut, Refused}
 use Rattle.store_model.specs.Worlds.{World, OpenedCut, Event, Note, is_freed, IsOutOfReach}
 use Rattle.store_model.specs.Replies.{Allows, AllowsReply}
-use Rattle.store_model.specs.Steps.{next, after_answer, after_refusal, after_reply, opened}
+use Rattle.store_model.specs.Steps.{next, after_answer, after_refusal, after_reply, cut_opened}
 use Rattle.store_model.specs.Histories.{after, IsLegal, is_refused}
 use Rattle.store_model.specs.Lawful.{IsLawful}
 use Rattle.store_model.proofs.Lawfulness.{history_is_lawful, event_is_lawful}
@@ -82,7 +82,7 @@ module _ (u : World) (opening ending : Event) (during : List Event) (number : �
   may_open allowed =
       subst (λ (c : Call). AllowsReply u c opening.note (Cut number)) opens.0 (subst (λ (r : Reply). AllowsReply u opening.entry.call opening.note r) opens.1 allowed.1)
 
-  is_opened : next u opening ≡ opened u
+  is_opened : next u opening ≡ cut_opened u
   is_opened = ap (λ r. after_reply u opening.entry.call opening.note r) opens.1 ∙ ap (λ c. after_reply u c opening.note (Cut number)) opens.0
 
   may_end : (v : World) → Allows v ending → AllowsReply v EndCut ending.note Done
@@ -96,9 +96,9 @@ module _ (u : World) (opening ending : Event) (during : List Event) (number : �
       → AllByRecursion (λ (e : Event). takes_cut e.entry.call e.entry.reply ≡ false) during → IsUnreached u name → IsTrue (is_freed (next (after (next u opening) during) ending) name)
   freed_as_it_ends allowed legal may stays out =
       let first = may_open allowed in
-      let legal_opened : IsLegal (opened u) during = subst (λ (v : World). IsLegal v during) is_opened legal in
-      let c = the_cut (u.last_cut + 1) (after (opened u) during).cut (during_has (u.last_cut + 1) (opened u) during refl legal_opened stays) in
-      let last : AllowsReply (after (opened u) during) EndCut ending.note Done = subst (λ (v : World). AllowsReply (after v during) EndCut ending.note Done) is_opened (may_end (after (next u opening) during) may) in
+      let legal_opened : IsLegal (cut_opened u) during = subst (λ (v : World). IsLegal v during) is_opened legal in
+      let c = the_cut (u.last_cut + 1) (after (cut_opened u) during).cut (during_has (u.last_cut + 1) (cut_opened u) during refl legal_opened stays) in
+      let last : AllowsReply (after (cut_opened u) during) EndCut ending.note Done = subst (λ (v : World). AllowsReply (after v during) EndCut ending.note Done) is_opened (may_end (after (next u opening) during) may) in
       let freed = freed_from_opening u during c.0 ending.note name (event_is_lawful u OpenCut opening.note (Cut number) lawful first) legal_opened c.1 c.2 last.0 out.there out.unfreed out.unreached in
       subst (λ (names : List NameParts). IsTrue (has_name names name)) (sym (is_ended (after (next u opening) during)))
       (subst (λ (v : World). IsTrue (is_freed (after v during) name)) (sym is_opened) freed)

@@ -11,7 +11,7 @@ use Rattle.store_model.specs.Worlds.{World, Event, Note}
 use Rattle.store_model.specs.Faults.{FaultsAscend}
 use Rattle.store_model.specs.Replies.{Allows}
 use Rattle.store_model.specs.Steps.{next}
-use Rattle.store_model.specs.Histories.{after, IsLegal, IsRun, HasPresentMarks}
+use Rattle.store_model.specs.Histories.{after, IsLegal, IsScriptRun, HasPresentMarks}
 use Rattle.image_model.specs.Stands.{StandsForWorld}
 use Rattle.cut_core.specs.Reopening.{IsOpenedAnew}
 use Rattle.cut_core.specs.Seen.{Seen}
@@ -45,7 +45,7 @@ RunsTo told w (e ∷ events) last = (to : World) × StepsTo told w e to × RunsT
 -- the history is legal from the world, and this is the world after it
 pub record IsLegalRun (w : World) (history : List Event) (last : World) : Type 0 where
   pub legal : IsLegal w history
-  pub is_run : IsRun w history
+  pub is_run : IsScriptRun w history
   pub last_is : last ≡ after w history
 
 -- ---- what a crash leaves

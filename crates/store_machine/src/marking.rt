@@ -7,7 +7,7 @@ ghost use Rattle.store_model.specs.Replies.{Allows};
 ghost use Rattle.cut_core.specs.Given.{mark_event};
 ghost use Rattle.mark_pool.specs.Jobs.{AreWorkers};
 ghost use Rattle.store_machine.specs.Acts.{Answered};
-ghost use Rattle.store_machine.specs.Kept.{IsKept, IsUnclosed, KeepsClosed};
+ghost use Rattle.store_machine.specs.Kept.{IsKeptCut, IsUnclosed, KeepsClosed};
 
 use cut_builder::{ClosedCut, MarkedCut};
 use cut_core::Core;
@@ -27,7 +27,7 @@ pub fn mark_closed<T: Threads + Sync, D: Disk>(
     workers: u32,
 ) -> (Reply, Option<ClosedCut>)
     requires workers { AreWorkers workers }
-    requires kept { IsKept core.old.world core.old.beside cut }
+    requires kept { IsKeptCut core.old.world core.old.beside cut }
     requires may { (count : ℕ) → Allows core.old.world (mark_event count None (Refused NoMemory)) }
     ensures answered { Answered ⟦<D as Disk>⟧ core.old core.new (Mark workers) result.0 }
     ensures kept { KeepsClosed core.new result.1 }
@@ -49,7 +49,7 @@ pub fn mark_closed<T: Threads + Sync, D: Disk>(
 
 /// Gives a core the marks of its closed cut.
 fn give_marks<D: Disk>(core: &mut Core<D>, marked: MarkedCut)
-    requires kept { IsKept core.old.world core.old.beside marked.cut }
+    requires kept { IsKeptCut core.old.world core.old.beside marked.cut }
     requires may { (count : ℕ) → Allows core.old.world (mark_event count None (Refused NoMemory)) }
     ensures answered { (workers : ℕ) → Answered ⟦<D as Disk>⟧ core.old core.new (Mark workers) Done }
     ensures unclosed { IsUnclosed core.new.world }

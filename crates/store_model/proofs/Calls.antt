@@ -13,7 +13,7 @@ use Rattle.object_graph.specs.Graphs.{has_name, is_at, objects_at}
 use Rattle.object_graph.specs.Slots.{below}
 use Rattle.object_graph.specs.declared.limits.TheConstants.{LAST_GENERATION}
 use Rattle.store_model.specs.Worlds.{World, Transaction, Note, Write, link, assign, slots_of, is_unfreed, transaction}
-use Rattle.store_model.specs.Causes.{has_page, first_refusal, causes, not_open, stranger, strange_target, busy_to_read, busy_to_write, field_seen, holder, is_occupied, free_slot, name_at, new_name}
+use Rattle.store_model.specs.Causes.{has_page, first_refusal, causes, not_open, stranger, strange_target, busy_to_read, busy_to_write, field_seen, holder, is_occupied, free_slot, new_name_at, new_name}
 use Rattle.store_model.specs.Steps.{with_page, with_name, with_target, with_transaction, with_new, reads_page, writes, makes}
 use Rattle.store_model.specs.Lawful.{IsOwn, IsKnownWrite, IsCovered, IsLawfulTransaction, IsApart}
 use Rattle.object_graph.proofs.Members.{In, in_append, append_left, append_right, each_in, each_from, or_left, or_right}
@@ -269,7 +269,7 @@ one_more_at p s page slot generation names few none = by_test ((page == p) && (s
         subst (λ k. k < 2) (sym (ap length (c ∙ (ap (λ ns. ns ++ filter (is_at p s) (n ∷ [])) z ∙ d)))) (omega arith)
 
 making : (w : World) (n page slot : ℕ) → IsOrderly w → not_open w n ≡ None → page < w.pages → busy_to_write w n page ≡ None → IsVacant w n page slot
-    → IsLawfulChange w n (makes (name_at w.graph page slot))
+    → IsLawfulChange w n (makes (new_name_at w.graph page slot))
 making w n page slot lawful opn within free is = record {
   is_open = open_in w n opn;
   number = number_of_open w n (is_open w n opn);
@@ -300,7 +300,7 @@ making w n page slot lawful opn within free is = record {
 }
   where
     name : NameParts
-    name = name_at w.graph page slot
+    name = new_name_at w.graph page slot
 
     t : Transaction
     t = transaction w n
@@ -317,9 +317,9 @@ making w n page slot lawful opn within free is = record {
 pub new_is_orderly : (w : World) (n page : ℕ) (note : Note) → IsOrderly w → first_refusal w (New n page) note ≡ None → IsOrderly (with_new w n (new_name w n page))
 new_is_orderly w n page note lawful may = by_slot (free_slot w n page) refl
   where
-    by_slot : (o : Option ℕ) → free_slot w n page ≡ o → IsOrderly (with_new w n (option_map (name_at w.graph page) o))
+    by_slot : (o : Option ℕ) → free_slot w n page ≡ o → IsOrderly (with_new w n (option_map (new_name_at w.graph page) o))
     by_slot None e = lawful
     by_slot (Some slot) e =
         let h = nones (causes w (New n page) note) may in
         let within : page < w.pages = omega (arith, ltb-true, not-false (ltb page w.pages) (when_none (not (ltb page w.pages)) _ h.1.1.0)) in
-        change_is_orderly w n (makes (name_at w.graph page slot)) lawful (making w n page slot lawful h.1.0 within h.1.1.1.0 (vacant w n page slot e))
+        change_is_orderly w n (makes (new_name_at w.graph page slot)) lawful (making w n page slot lawful h.1.0 within h.1.1.1.0 (vacant w n page slot e))

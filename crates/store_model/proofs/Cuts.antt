@@ -8,7 +8,7 @@ use Rattle.object_graph.specs.ObjectParts.{ObjectParts}
 use Rattle.object_graph.specs.Graphs.{has_object, is_to, is_at, refers, objects_at, IsReachedFrom}
 use Rattle.object_graph.specs.Slots.{below}
 use Rattle.store_model.specs.Worlds.{World, Transaction, starts, view, IsReached, new_object, with_writes, fields_of}
-use Rattle.store_model.specs.Causes.{name_at}
+use Rattle.store_model.specs.Causes.{new_name_at}
 use Rattle.store_model.specs.Lawful.{IsKnownWrite, IsOwn, IsLawfulTransaction, CountsUp, generations_at}
 use Rattle.object_graph.proofs.Members.{In, any_in, in_any, filter_in, in_map, map_in, in_append, each_in}
 use Rattle.object_graph.proofs.Paths.{has_name_in, has_object_in, is_to_same, name_eq_same, name_eq_refl}
@@ -22,7 +22,7 @@ below_bound (suc n) j m = elim (in_append (below n) (n ∷ []) j m) [
 ]
 
 -- the next name of a place is new
-pub next_name_is_new : (w : World) (name : NameParts) → CountsUp w.graph → name ≡ name_at w.graph name.page name.slot → has_object w.graph name ≡ false
+pub next_name_is_new : (w : World) (name : NameParts) → CountsUp w.graph → name ≡ new_name_at w.graph name.page name.slot → has_object w.graph name ≡ false
 next_name_is_new w name counts is = elim (cases_Bool (has_object w.graph name)) [
   | inr f ↦ f
   | inl t ↦

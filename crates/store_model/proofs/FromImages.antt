@@ -14,7 +14,7 @@ use Rattle.object_graph.proofs.Paths.{has_name_in, in_has_name}
 use Rattle.store_model.specs.Worlds.{World, is_unfreed, new_object, slots_of, fields_of}
 use Rattle.store_model.specs.Images.{no_slot, object_in, objects_in, slot_with, shown_slot, shown_of}
 use Rattle.store_model.specs.Lawful.{CountsUp}
-use Rattle.store_model.specs.FromImages.{slot_in, of_places, objects_in_use, freed_count, freed_name, freed_in, all_objects_in, IsSlot, AreImagesOf}
+use Rattle.store_model.specs.FromImages.{slot_in, of_places, objects_in_use, freed_count, freed_name, freed_in, all_objects_in, IsSlotWith, AreImagesOf}
 use Rattle.store_model.proofs.Cuts.{below_bound}
 use Rattle.store_model.proofs.Flats.{in_objects_in, length_below, length-map_below, get-map_below}
 use Rattle.store_model.proofs.Places.{map_of_map, generation_of}
@@ -84,7 +84,7 @@ length-all_objects_in w page slot s some =
     sym (length-map (all_objects_in w page slot s) generation_of) ∙ ap length (all_generations w page slot s some) ∙ length-map (below s.generation) suc ∙ length_below s.generation
 
 -- the slot that its objects give
-pub slot_again : (fields page slot : ℕ) (s : SlotParts) → IsSlot fields s → slot_with fields (objects_in page slot s) s.generation ≡ s
+pub slot_again : (fields page slot : ℕ) (s : SlotParts) → IsSlotWith fields s → slot_with fields (objects_in page slot s) s.generation ≡ s
 slot_again fields page slot s right = by_use s.in_use refl
   where
     by_use : (used : Bool) → s.in_use ≡ used → slot_with fields (cond used (object_in page slot s ∷ []) []) s.generation ≡ s

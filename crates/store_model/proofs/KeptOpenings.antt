@@ -13,7 +13,7 @@ use Rattle.object_graph.specs.declared.calls.Refusal.{Refusal}
 use Rattle.object_graph.specs.declared.calls.Refusal.TheVariants.{DiskFault}
 use Rattle.store_model.specs.Worlds.{World, OpenedCut, Opening, Note, Event, IsLost, IsReached, is_freed}
 use Rattle.store_model.specs.Causes.{new_name, first_refusal}
-use Rattle.store_model.specs.Steps.{opening_of, opened, has_swept, with_page, with_new, after_refusal, after_answer, after_reply, next}
+use Rattle.store_model.specs.Steps.{opening_of, cut_opened, has_swept, with_page, with_new, after_refusal, after_answer, after_reply, next}
 use Rattle.store_model.specs.Histories.{after, IsLegal}
 use Rattle.store_model.specs.Lawful.{IsLawful}
 use Rattle.store_model.proofs.Lawfulness.{ended_has_freed, history_is_lawful}
@@ -71,14 +71,14 @@ same_opening number opening w cut k is n =
     elim h [ inl a ↦ a.1 | inr lt ↦ absurd (omega (arith, lt, n)) ]
 
 -- from the opening of a cut on, to the world in which it may end
-pub freed_from_opening : (w : World) (events : List Event) (cut : OpenedCut) (note : Note) (name : NameParts) → IsLawful (opened w) → IsLegal (opened w) events
-    → (after (opened w) events).cut ≡ Some cut → cut.number ≡ w.last_cut + 1 → first_refusal (after (opened w) events) EndCut note ≡ None
-    → IsTrue (has_object w.graph name) → IsTrue (not (is_freed w name)) → ¬ IsReached w name → IsTrue (is_freed (after (opened w) events) name)
+pub freed_from_opening : (w : World) (events : List Event) (cut : OpenedCut) (note : Note) (name : NameParts) → IsLawful (cut_opened w) → IsLegal (cut_opened w) events
+    → (after (cut_opened w) events).cut ≡ Some cut → cut.number ≡ w.last_cut + 1 → first_refusal (after (cut_opened w) events) EndCut note ≡ None
+    → IsTrue (has_object w.graph name) → IsTrue (not (is_freed w name)) → ¬ IsReached w name → IsTrue (is_freed (after (cut_opened w) events) name)
 freed_from_opening w events cut note name lawful legal is number may there unfreed unreached =
-    let k0 : KeepsCut (w.last_cut + 1) (opening_of w) (opened w) = record { last = omega arith; cut = inl (refl, refl) } in
-    let same = same_opening (w.last_cut + 1) (opening_of w) (after (opened w) events) cut (history_keeps (w.last_cut + 1) (opening_of w) (opened w) events k0) is number in
+    let k0 : KeepsCut (w.last_cut + 1) (opening_of w) (cut_opened w) = record { last = omega arith; cut = inl (refl, refl) } in
+    let same = same_opening (w.last_cut + 1) (opening_of w) (after (cut_opened w) events) cut (history_keeps (w.last_cut + 1) (opening_of w) (cut_opened w) events k0) is number in
     let lost : IsLost (opening_of w) name = record { old = and_from (has_object w.graph name) (not (has_name w.freed name)) there unfreed; unreached = unreached } in
-    ended_has_freed (after (opened w) events) cut note name (history_is_lawful (opened w) events lawful legal) is may (subst (λ (o : Opening). IsLost o name) (sym same) lost)
+    ended_has_freed (after (cut_opened w) events) cut note name (history_is_lawful (cut_opened w) events lawful legal) is may (subst (λ (o : Opening). IsLost o name) (sym same) lost)
 
 -- ---- the cut that is there is the last that was opened
 

@@ -21,7 +21,7 @@ use Rattle.object_graph.specs.Slots.{below}
 use Rattle.store_model.specs.Worlds.{World, Opening, OpenedCut, Doubt, no_doubt, commit_in_doubt, sweep_in_doubt, Note, Event, find_transaction, fresh_world, IsLost, is_freed, slots_of}
 use Rattle.store_model.specs.Causes.{first_met, first_refusal, causes, when, broken, not_open, spent, new_name, has_page, missing, unswept, wrong_phase, is_phase, no_page, already_swept}
 use Rattle.store_model.specs.Replies.{AllowsReply, Refuses, Answers, MayFree, MayFreeNow, names_in}
-use Rattle.store_model.specs.Steps.{with_new, opened, after_refusal, after_answer, after_reply, faults_in, doubt_after, next, has_swept, swept}
+use Rattle.store_model.specs.Steps.{with_new, cut_opened, after_refusal, after_answer, after_reply, faults_in, doubt_after, next, has_swept, swept}
 use Rattle.store_model.specs.Histories.{after, IsLegal}
 use Rattle.store_model.specs.Lawful.{KeepsLost, KeepsLostOf, IsDoubtOf, IsUnsweptIn, IsLawful, IsOrderly, HasFreedSwept, IsPlaced}
 use Rattle.store_model.proofs.Allowed.{first_met_none, when_none, with_page_cases}
@@ -305,7 +305,7 @@ lost_after_answer : (w : World) (call : Call) (note : Note) (reply : Reply) → 
     → ((opening : Opening) → KeepsLost w opening → KeepsLost (after_answer w call note reply) opening)
     → MatchOption w.cut (Unit {0}) (KeepsLostOf w) → MatchOption (after_answer w call note reply).cut (Unit {0}) (KeepsLostOf (after_answer w call note reply))
 lost_after_answer w call note reply orderly next f keeps = elim (is_opening call) [
-  | inl e ↦ subst (λ c. MatchOption (after_answer w c note reply).cut (Unit {0}) (KeepsLostOf (after_answer w c note reply))) (sym e) (opening_keeps_lost (opened w) orderly)
+  | inl e ↦ subst (λ c. MatchOption (after_answer w c note reply).cut (Unit {0}) (KeepsLostOf (after_answer w c note reply))) (sym e) (opening_keeps_lost (cut_opened w) orderly)
   | inr h ↦ lost_under w (after_answer w call note reply) w.cut (after_answer w call note reply).cut f (opening_after_answer w call note reply h) keeps
 ]
 

@@ -8,7 +8,7 @@ use Rattle.object_graph.specs.declared.calls.Call.TheVariants.{New}
 use Rattle.object_graph.specs.declared.calls.Reply.TheVariants.{Made}
 use Rattle.object_graph.specs.Graphs.{has_name, has_object, is_at}
 use Rattle.store_model.specs.Worlds.{World, Transaction, Note, transaction}
-use Rattle.store_model.specs.Causes.{has_page, causes, free_slot, name_at}
+use Rattle.store_model.specs.Causes.{has_page, causes, free_slot, new_name_at}
 use Rattle.store_model.specs.Replies.{AllowsReply, AnswersNew}
 use Rattle.store_model.specs.Lawful.{IsOwn, IsOrderly}
 use Rattle.object_graph.proofs.Members.{In, in_any, each_in, each_from}
@@ -19,15 +19,15 @@ use Rattle.store_model.proofs.Orders.{the_one, lawful_one}
 use Rattle.store_model.proofs.Calls.{no_user, vacant, right_false}
 
 -- the slot that is taken
-the_slot : (w : World) (n page : ℕ) (name : NameParts) (o : Option ℕ) → free_slot w n page ≡ o → AnswersNew (option_map (name_at w.graph page) o) (Made name)
-    → (slot : ℕ) × (free_slot w n page ≡ Some slot) × (name ≡ name_at w.graph page slot)
+the_slot : (w : World) (n page : ℕ) (name : NameParts) (o : Option ℕ) → free_slot w n page ≡ o → AnswersNew (option_map (new_name_at w.graph page) o) (Made name)
+    → (slot : ℕ) × (free_slot w n page ≡ Some slot) × (name ≡ new_name_at w.graph page slot)
 the_slot w n page name None e is = absurd is
-the_slot w n page name (Some slot) e is = (slot, e, let z : name ≡ name_at w.graph page slot = cc in z)
+the_slot w n page name (Some slot) e is = (slot, e, let z : name ≡ new_name_at w.graph page slot = cc in z)
 
 pub new_is_uncommitted : (w : World) (n page : ℕ) (note : Note) (name : NameParts) → IsOrderly w → AllowsReply w (New n page) note (Made name) → has_object w.graph name ≡ false
 new_is_uncommitted w n page note name orderly may =
     let s = the_slot w n page name (free_slot w n page) refl may.1 in
-    subst (λ k. has_object w.graph k ≡ false) (sym s.2) (next_name_is_new w (name_at w.graph page s.0) orderly.counted refl)
+    subst (λ k. has_object w.graph k ≡ false) (sym s.2) (next_name_is_new w (new_name_at w.graph page s.0) orderly.counted refl)
 
 pub new_is_nobodys : (w : World) (n page : ℕ) (note : Note) (name : NameParts) → IsOrderly w → AllowsReply w (New n page) note (Made name)
     → AllByRecursion (λ t. has_name t.own name ≡ false) w.transactions

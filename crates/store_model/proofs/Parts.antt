@@ -10,11 +10,11 @@ use Rattle.object_graph.specs.declared.calls.Call.TheVariants.{Mark}
 use Rattle.object_graph.specs.declared.calls.Refusal.{Refusal}
 use Rattle.object_graph.specs.declared.calls.Refusal.TheVariants.{NoCut, WrongPhase, OtherCut, Broken}
 use Rattle.object_graph.specs.declared.calls.Reply.TheVariants.{Done, Refused}
-use Rattle.store_model.specs.Causes.{first_met, first_refusal, when, broken, wrong_phase, wrong_marks, marks_of}
+use Rattle.store_model.specs.Causes.{first_met, first_refusal, when, broken, wrong_phase, wrong_marks, marks_number}
 use Rattle.store_model.specs.Replies.{AllowsReply}
 use Rattle.store_model.specs.Worlds.{World, OpenedCut, Note, nothing, Event}
 use Rattle.store_model.specs.Steps.{next}
-use Rattle.store_model.specs.Histories.{after, IsLegal, HasPresentMarks, HavePresentMarks, IsRun, Makes, Starts, is_refused}
+use Rattle.store_model.specs.Histories.{after, IsLegal, HasPresentMarks, HavePresentMarks, IsScriptRun, Makes, Starts, is_refused}
 
 pub after-append : (w : World) (events more : List Event) → after w (events ++ more) ≡ after (after w events) more
 after-append w [] more = refl
@@ -33,7 +33,7 @@ IsLegal-parts w (e ∷ events) more h =
 -- marks that are none, or of the cut that is there, aren't refused as those of another cut
 pub present_marks : (w : World) (workers number : ℕ) (note : Note) → HasPresentMarks w (Mark workers) note → ¬ AllowsReply w (Mark workers) note (Refused (OtherCut number))
 present_marks w workers number note present = λ may.
-    no_cause (first_refusal w (Mark workers) note) (met w.cut (marks_of note) present) may
+    no_cause (first_refusal w (Mark workers) note) (met w.cut (marks_number note) present) may
   where
     no_cause : (o : Option Refusal) → o ≢ Some (OtherCut number) → MatchOption o (false ≡ true) (λ first. OtherCut number ≡ first) → ⊥
     no_cause None h may = cc
@@ -80,10 +80,10 @@ marks_parts : (w : World) (events more : List Event) → HavePresentMarks w (eve
 marks_parts w [] more h = (tt, h)
 marks_parts w (e ∷ events) more h = let r = marks_parts (next w e) events more h.1 in ((h.0, r.0), r.1)
 
-pub IsRun-append : (w : World) (events more : List Event) → IsRun w events → IsRun (after w events) more → IsRun w (events ++ more)
+pub IsRun-append : (w : World) (events more : List Event) → IsScriptRun w events → IsScriptRun (after w events) more → IsScriptRun w (events ++ more)
 IsRun-append w events more a b = record { lane = lanes_append events more a.lane b.lane; marks = marks_append w events more a.marks b.marks }
 
-pub IsRun-parts : (w : World) (events more : List Event) → IsRun w (events ++ more) → IsRun w events × IsRun (after w events) more
+pub IsRun-parts : (w : World) (events more : List Event) → IsScriptRun w (events ++ more) → IsScriptRun w events × IsScriptRun (after w events) more
 IsRun-parts w events more h =
     let l = lanes_parts events more h.lane in
     let m = marks_parts w events more h.marks in

@@ -20,7 +20,7 @@ use Rattle.object_graph.specs.Slots.{below}
 use Rattle.object_graph.proofs.Members.{In, each_in, each_from, in_append, in_map, map_in, in_filter, filter_in}
 use Rattle.object_graph.proofs.Paths.{has_object_in, has_name_in, in_has_object}
 use Rattle.store_model.specs.Worlds.{World, Transaction, Note, Event, Doubt, commit_in_doubt, view, new_object, with_writes, find_transaction, transaction, fresh_transaction, fresh_world, slots_of}
-use Rattle.store_model.specs.Causes.{causes, new_name, name_at, free_slot, first_refusal}
+use Rattle.store_model.specs.Causes.{causes, new_name, new_name_at, free_slot, first_refusal}
 use Rattle.store_model.specs.Replies.{AllowsReply}
 use Rattle.store_model.specs.Steps.{makes, with_new, without, with_transaction, graph_in_doubt, commits_found, after_refusal, after_answer, after_reply, next}
 use Rattle.store_model.specs.Histories.{after, IsLegal}
@@ -139,7 +139,7 @@ few_at n last gs is some none = elim (cases_lt n last) [
       let on = eq-eqb last last refl in cc
 ]
 
-pub new_is_proper : (w : World) (t page slot : ℕ) → IsOrderly w → w.pages ≤ MOST_PAGES → page < w.pages → IsVacant w t page slot → IsName (name_at w.graph page slot)
+pub new_is_proper : (w : World) (t page slot : ℕ) → IsOrderly w → w.pages ≤ MOST_PAGES → page < w.pages → IsVacant w t page slot → IsName (new_name_at w.graph page slot)
 new_is_proper w t page slot lawful few within free =
     let low : length (objects_at w.graph page slot) < LAST_GENERATION = few_at (length (objects_at w.graph page slot)) LAST_GENERATION (generations_at w.graph page slot) (lawful.counted page slot) (omega arith)
     (λ g m.
@@ -174,11 +174,11 @@ own_with_new w t page note lawful h may = by_slot (free_slot w t page) refl
     within : page < w.pages
     within = ltb-true page w.pages (not-false (nat_lt page w.pages) (when_none _ NoPage (nones (causes w (New t page) note) may).1.1.0))
 
-    by_slot : (o : Option ℕ) → free_slot w t page ≡ o → AreOwnProper (with_new w t (option_map (name_at w.graph page) o)).transactions
+    by_slot : (o : Option ℕ) → free_slot w t page ≡ o → AreOwnProper (with_new w t (option_map (new_name_at w.graph page) o)).transactions
     by_slot None e = h.own
     by_slot (Some slot) e =
         let proper = new_is_proper w t page slot lawful h.pages within (vacant w t page slot e) in
-        own_changed w t (makes (name_at w.graph page slot)) h (λ u before. made_proper u.own (name_at w.graph page slot) before proper)
+        own_changed w t (makes (new_name_at w.graph page slot)) h (λ u before. made_proper u.own (new_name_at w.graph page slot) before proper)
 
 own_without : (w : World) (n : ℕ) → HasProperNames w → AreOwnProper (without w n)
 own_without w n h = each_from (λ (t : Transaction). AllByRecursion IsName t.own) (without w n) (λ u m.

@@ -14,7 +14,7 @@ use Rattle.object_graph.proofs.Paths.{has_object_in, in_has_object, reached_more
 use Rattle.store_model.specs.Worlds.{World, slots_of, fields_of, starts, unfreed, is_freed, is_unfreed}
 use Rattle.store_model.specs.Images.{no_slot, unfreed_at, slot_with, shown_slot, shown_of, shown, all_shown, objects_of}
 use Rattle.store_model.specs.Lawful.{IsPlaced, HaveFields, CountsUp, IsOrderly, IsLawful}
-use Rattle.store_model.specs.FromImages.{slot_in, objects_in_use, is_name_in_use, was_given, IsSlot, AreImagesOf, has_root, IsWhole}
+use Rattle.store_model.specs.FromImages.{slot_in, objects_in_use, is_name_in_use, was_given, IsSlotWith, AreImagesOf, has_root, IsWhole}
 use Rattle.store_model.proofs.Cuts.{below_bound}
 use Rattle.store_model.proofs.Fields.{HasFields}
 use Rattle.store_model.proofs.Flats.{in_flat, flat_in, length-map_below, get-map_below}
@@ -111,7 +111,7 @@ record IsNamed (fields : ℕ) (o : ObjectParts) : Type 0 where
   some : 0 < o.name.generation
   width : length o.refs ≡ fields
 
-slot_right : (fields names : ℕ) (os : List ObjectParts) → ((o : ObjectParts) → In o os → IsNamed fields o) → IsSlot fields (slot_with fields os names)
+slot_right : (fields names : ℕ) (os : List ObjectParts) → ((o : ObjectParts) → In o os → IsNamed fields o) → IsSlotWith fields (slot_with fields os names)
 slot_right fields names [] h = record { named = λ e. absurd cc; number = λ e. refl; refs = λ e. refl; width = length-replicate fields None }
 slot_right fields names (o ∷ os) h =
     let a = h o (inl refl) in
@@ -138,7 +138,7 @@ shows_images w lawful fields =
     record {
       count = λ page within. ap length (page_shown w page (subst (λ (n : ℕ). page < n) count within)) ∙ length_shown w page;
       slots = λ page slot within s.
-          subst (IsSlot (fields_of w page)) (sym (slot_shown w page slot (subst (λ (n : ℕ). page < n) count within) s))
+          subst (IsSlotWith (fields_of w page)) (sym (slot_shown w page slot (subst (λ (n : ℕ). page < n) count within) s))
           (slot_right (fields_of w page) (length (objects_at w.graph page slot)) (unfreed_at w.graph w.freed page slot) (λ o m. named_at w page slot o lawful fields m));
     }
 

@@ -61,12 +61,12 @@ abbrev pub free_slot : World → ℕ → ℕ → Option ℕ
 free_slot w number page = find (λ slot. not (is_occupied w number page slot)) (below (slots_of w page))
 
 -- the name that is new at a slot
-abbrev pub name_at : List ObjectParts → ℕ → ℕ → NameParts
-name_at graph page slot = record { page = page; slot = slot; generation = 1 + length (objects_at graph page slot) }
+abbrev pub new_name_at : List ObjectParts → ℕ → ℕ → NameParts
+new_name_at graph page slot = record { page = page; slot = slot; generation = 1 + length (objects_at graph page slot) }
 
 -- the name that a transaction is given for a new object
 abbrev pub new_name : World → ℕ → ℕ → Option NameParts
-new_name w number page = option_map (name_at w.graph page) (free_slot w number page)
+new_name w number page = option_map (new_name_at w.graph page) (free_slot w number page)
 
 -- the causes, each by itself
 abbrev pub broken : World → Option Refusal
@@ -150,9 +150,9 @@ abbrev pub other_cut : OpenedCut → ℕ → Option Refusal
 other_cut cut number = when (not (cut.number == number)) (OtherCut cut.number)
 
 -- the number of the cut whose marks were given
-abbrev pub marks_of : Note → Option ℕ
-marks_of (marks number) = number
-marks_of _ = None
+abbrev pub marks_number : Note → Option ℕ
+marks_number (marks number) = number
+marks_number _ = None
 
 -- marks were given, of another cut or of none
 abbrev pub wrong_marks : OpenedCut → Option ℕ → Option Refusal
@@ -184,7 +184,7 @@ causes w (HandIn page number seen) note = broken w
     ∷ on_cut w (λ cut. wrong_phase cut Copying ∷ other_cut cut number ∷ already_copied cut page ∷ [])
 causes w Close note = broken w ∷ on_cut w (λ cut. wrong_phase cut Copying ∷ uncopied w cut ∷ [])
 causes w (Mark workers) note = broken w
-    ∷ on_cut w (λ cut. wrong_phase cut Closed ∷ wrong_marks cut (marks_of note) ∷ [])
+    ∷ on_cut w (λ cut. wrong_phase cut Closed ∷ wrong_marks cut (marks_number note) ∷ [])
 causes w (Sweep page) note = broken w
     ∷ on_cut w (λ cut. wrong_phase cut Sweeping ∷ no_page w page ∷ already_swept cut page ∷ [])
 causes w EndCut note = broken w ∷ on_cut w (λ cut. wrong_phase cut Sweeping ∷ unswept w cut ∷ [])

@@ -79,7 +79,7 @@ world_of commits images = with_images (bare_world commits (length images)) image
 -- ---- images that a store may have
 
 -- an object in use has had a name, a free slot has no fields, and each has as many references as an object
-pub record IsSlot (fields : ℕ) (s : SlotParts) : Type 0 where
+pub record IsSlotWith (fields : ℕ) (s : SlotParts) : Type 0 where
   pub named : s.in_use ≡ true → 0 < s.generation
   pub number : s.in_use ≡ false → s.number ≡ 0
   pub refs : s.in_use ≡ false → s.refs ≡ replicate fields None
@@ -89,7 +89,7 @@ pub record IsSlot (fields : ℕ) (s : SlotParts) : Type 0 where
 pub record AreImagesOf (slots_on fields_on : ℕ → ℕ) (images : List (List SlotParts)) : Type 0 where
   pub count : (page : ℕ) → page < length images → length (slice_index_or images page []) ≡ slots_on page
   pub slots : (page slot : ℕ) → page < length images → slot < slots_on page
-      → IsSlot (fields_on page) (slot_in images page slot)
+      → IsSlotWith (fields_on page) (slot_in images page slot)
 
 -- so it is in the store that opens to them
 abbrev pub AreImages : List (List SlotParts) → Type 0

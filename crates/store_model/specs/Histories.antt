@@ -7,7 +7,7 @@ use Rattle.object_graph.specs.declared.calls.Reply.{Reply}
 use Rattle.object_graph.specs.declared.calls.Reply.TheVariants.{Refused}
 use Rattle.object_graph.specs.Slots.{below}
 use Rattle.store_model.specs.Worlds.{World, Event, Note}
-use Rattle.store_model.specs.Causes.{marks_of}
+use Rattle.store_model.specs.Causes.{marks_number}
 use Rattle.store_model.specs.Replies.{Allows}
 use Rattle.store_model.specs.Steps.{next}
 
@@ -52,7 +52,7 @@ Follows (calls ∷ lines) events = (rest : List Event) × Makes calls events res
 
 -- marks are none, or those of the cut that is there
 abbrev pub HasPresentMarks : World → Call → Note → Type 0
-HasPresentMarks w (Mark workers) note = IfSome (marks_of note) (λ number. IsSomeAnd w.cut (λ cut. cut.number ≡ number))
+HasPresentMarks w (Mark workers) note = IfSome (marks_number note) (λ number. IsSomeAnd w.cut (λ cut. cut.number ≡ number))
 HasPresentMarks w _ note = Unit {0}
 
 -- each mark of the history gives such marks
@@ -61,6 +61,6 @@ HavePresentMarks w [] = Unit {0}
 HavePresentMarks w (e ∷ events) = HasPresentMarks w e.entry.call e.note × HavePresentMarks (next w e) events
 
 -- the events of one script: all are of lane 1, and each mark gives marks of the cut that is there
-pub record IsRun (w : World) (events : List Event) : Type 0 where
+pub record IsScriptRun (w : World) (events : List Event) : Type 0 where
   pub lane : AllByRecursion (λ e. e.entry.lane ≡ 1) events
   pub marks : HavePresentMarks w events

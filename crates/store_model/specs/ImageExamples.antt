@@ -18,8 +18,8 @@ abbrev pub used_slot : ℕ → ℕ → List (Option NameParts) → SlotParts
 used_slot generation number refs = record { in_use = true; generation = generation; number = number; refs = refs }
 
 -- a page with these first slots, and no more
-abbrev pub page_of : List SlotParts → List SlotParts
-page_of slots = slots ++ replicate (slots_of (fresh_world 2) 0 - length slots) (free_slot 0)
+abbrev pub example_page : List SlotParts → List SlotParts
+example_page slots = slots ++ replicate (slots_of (fresh_world 2) 0 - length slots) (free_slot 0)
 
 -- the root refers to 1.0.2, whose place had another object before; 1.1.1 was freed, and 1.2.1 is out of reach
 abbrev pub to_second : List (Option NameParts)
@@ -29,8 +29,8 @@ abbrev pub no_refs : List (Option NameParts)
 no_refs = replicate object_fields None
 
 abbrev pub small_images : List (List SlotParts)
-small_images = page_of (used_slot 1 5 to_second ∷ [])
-    ∷ page_of (used_slot 2 7 no_refs ∷ free_slot 1 ∷ used_slot 1 9 no_refs ∷ []) ∷ []
+small_images = example_page (used_slot 1 5 to_second ∷ [])
+    ∷ example_page (used_slot 2 7 no_refs ∷ free_slot 1 ∷ used_slot 1 9 no_refs ∷ []) ∷ []
 
 abbrev pub object : NameParts → ℕ → List (Option NameParts) → ObjectParts
 object name number refs = record { name = name; number = number; refs = refs }

@@ -8,7 +8,7 @@ use Rattle.object_graph.specs.declared.calls.Reply.TheVariants.{Cut}
 use Rattle.object_graph.specs.Slots.{below}
 use Rattle.object_graph.specs.Members.{In}
 use Rattle.store_model.specs.Worlds.{World, Event}
-use Rattle.store_model.specs.Causes.{marks_of}
+use Rattle.store_model.specs.Causes.{marks_number}
 use Rattle.store_model.specs.Steps.{next}
 use Rattle.store_model.specs.Histories.{is_refused}
 
@@ -67,7 +67,7 @@ ClosedCut line number = (c : WorldEvent) × In c line × (c.event.entry.call ≡
 
 -- marks are none, or those of the cut that the line closed
 abbrev pub MarksOwn : List WorldEvent → WorldEvent → Call → Type 0
-MarksOwn line m (Mark workers) = IfSome (marks_of m.event.note) (ClosedCut line)
+MarksOwn line m (Mark workers) = IfSome (marks_number m.event.note) (ClosedCut line)
 MarksOwn line m _ = Unit {0}
 
 -- a line's events hand in copies and give marks of its own cut

@@ -9,7 +9,7 @@ use Rattle.object_graph.specs.Graphs.{has_name, has_object, refers, is_at, objec
 use Rattle.object_graph.specs.Slots.{below}
 use Rattle.object_graph.specs.declared.calls.Phase.TheVariants.{Sweeping}
 use Rattle.store_model.specs.Worlds.{World, Transaction, OpenedCut, Opening, Doubt, no_doubt, commit_in_doubt, sweep_in_doubt, Write, link, assign, slots_of, starts, starts_of, find_transaction, is_freed, is_unfreed, is_old, IsOutOfReach, IsLost}
-use Rattle.store_model.specs.Causes.{has_page, name_at}
+use Rattle.store_model.specs.Causes.{has_page, new_name_at}
 
 -- ---- the graph
 
@@ -61,7 +61,7 @@ IsKnownWrite t (assign name value) = IsTrue (has_name t.known name && has_page t
 pub record IsOwn (graph : List ObjectParts) (freed : List NameParts) (t : Transaction) (name : NameParts) : Type 0 where
   pub page : IsTrue (has_page t.pages_written name.page)
   pub free : AllByRecursion (λ o. IsTrue (has_name freed o.name)) (objects_at graph name.page name.slot)
-  pub next : name ≡ name_at graph name.page name.slot
+  pub next : name ≡ new_name_at graph name.page name.slot
 
 -- a path from a start to a name, whose other names stand on pages that the transaction read or wrote
 abbrev pub IsCoveredPath : List ObjectParts → Transaction → NameParts → List NameParts → NameParts → Type 0

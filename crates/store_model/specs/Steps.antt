@@ -63,8 +63,8 @@ committed w number = record w {
 abbrev pub opening_of : World → Opening
 opening_of w = record { graph = w.graph; commits = w.commits; freed = w.freed; starts = starts w }
 
-abbrev pub opened : World → World
-opened w = record w {
+abbrev pub cut_opened : World → World
+cut_opened w = record w {
   last_cut = w.last_cut + 1;
   cut = Some (record { number = w.last_cut + 1; phase = Copying; copied = []; swept = []; opening = opening_of w });
 }
@@ -126,7 +126,7 @@ after_answer w (Put t name value) note reply = with_transaction w t (writes (ass
 after_answer w (New t page) note reply = with_new w t (new_name w t page)
 after_answer w (Commit t) note reply = committed w t
 after_answer w (Abort t) note reply = record w { transactions = without w t }
-after_answer w OpenCut note reply = opened w
+after_answer w OpenCut note reply = cut_opened w
 after_answer w (Copy page) note reply = with_cut w (λ cut. record cut { copied = with_page page cut.copied })
 after_answer w (HandIn page number seen) note reply = with_cut w
     (λ cut. record cut { copied = with_page page cut.copied })

@@ -142,10 +142,10 @@ IsWord (few n) = (1 ≤ n) × (n ≤ 16)
 IsWord (named name) = IsName name
 
 -- words parted by single spaces
-abbrev pub joined : List (List ℕ) → List ℕ
-joined [] = []
-joined (word ∷ []) = word
-joined (word ∷ next ∷ words) = word ++ 32 ∷ joined (next ∷ words)
+abbrev pub joined_words : List (List ℕ) → List ℕ
+joined_words [] = []
+joined_words (word ∷ []) = word
+joined_words (word ∷ next ∷ words) = word ++ 32 ∷ joined_words (next ∷ words)
 
 -- the table of the calls' lines; a reference is set to none by a word of its own
 abbrev pub call_words : Call → List Word
@@ -171,7 +171,7 @@ call_words Reopen = label (codes "reopen") ∷ []
 
 -- a call's line
 abbrev pub call_text : Call → List ℕ
-call_text call = joined (map word_text (call_words call))
+call_text call = joined_words (map word_text (call_words call))
 
 abbrev pub word_numbers : Word → List ℕ
 word_numbers (label text) = []

@@ -2,7 +2,7 @@
 ghost use Rattle.std.specs.Prelude.{◌≡◌, [], ◌∷◌, codes};
 ghost use Rattle.object_graph.specs.declared.calls.Call.TheVariants.{OpenCut, DropCut};
 ghost use Rattle.store_model.specs.Worlds.{fresh_world};
-ghost use Rattle.store_model.specs.Histories.{IsLegal, IsRun, Follows, collection};
+ghost use Rattle.store_model.specs.Histories.{IsLegal, IsScriptRun, Follows, collection};
 ghost use Rattle.store_model.specs.Texts.{history_text};
 ghost use Rattle.store_model.specs.Examples as worked;
 
@@ -101,7 +101,7 @@ pub fn a_commit_in_doubt_may_be_done()
 pub fn nothing_is_collected()
     ensures legal { IsLegal (fresh_world 2) worked.nothing_is_collected }
     ensures follows { Follows (collection 2 2 ∷ []) worked.nothing_is_collected }
-    ensures run { IsRun (fresh_world 2) worked.nothing_is_collected }
+    ensures run { IsScriptRun (fresh_world 2) worked.nothing_is_collected }
     ensures text { history_text worked.nothing_is_collected ≡ codes "cut 1\nok\nok\nok\nok\nfreed none\nfreed none\nok\n" }
 {}
 

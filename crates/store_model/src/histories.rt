@@ -7,7 +7,7 @@ ghost use Rattle.object_graph.specs.declared.calls.Reply.TheVariants.{Refused};
 ghost use Rattle.store_model.specs.Worlds.{World, Note, Event};
 ghost use Rattle.store_model.specs.Replies.{Allows, AllowsReply};
 ghost use Rattle.store_model.specs.Steps.{next};
-ghost use Rattle.store_model.specs.Histories.{after, IsLegal, HasPresentMarks, IsRun, Makes, Starts, is_refused as tells_refusal};
+ghost use Rattle.store_model.specs.Histories.{after, IsLegal, HasPresentMarks, IsScriptRun, Makes, Starts, is_refused as tells_refusal};
 
 use object_graph::Reply;
 
@@ -36,7 +36,7 @@ pub fn histories_in_two_parts()
 
 /// So is a run.
 pub fn a_run_in_two_parts()
-    ensures { (w : World) (events more : List Event) → IsRun w (events ++ more) ↔ (IsRun w events × IsRun (after w events) more) }
+    ensures { (w : World) (events more : List Event) → IsScriptRun w (events ++ more) ↔ (IsScriptRun w events × IsScriptRun (after w events) more) }
 {}
 
 /// Events are the first ones of what a line makes exactly where some further ones make it whole.

@@ -16,7 +16,7 @@ use Rattle.cut_core.specs.Seen.{Seen}
 use Rattle.store_machine.specs.Acts.{Acts}
 use Rattle.script_lang.specs.Script.{Says}
 use Rattle.store_run.specs.Following.{FollowsLines, FollowsFront}
-use Rattle.store_run.specs.Lines.{CallDone, CallBegun, CallRan, CallsDone, CollectionDone, CollectionBegun, CollectionRan, LinesDone, LinesBegun, LineBad, LineRan, FrontDone, FrontBad, FrontBegun, FrontStopped, EndRan}
+use Rattle.store_run.specs.Lines.{CallDone, CallBegun, CallRan, CallsDone, CollectionDone, CollectionBegun, CollectionRan, LinesDone, LinesBegun, LineBad, ScriptLineRan, FrontDone, FrontBad, FrontBegun, FrontStopped, EndRan}
 use Rattle.store_run.specs.Ran.{PartlyWritten, end_status}
 use Rattle.store_run.specs.Writing.{AppendsFront}
 use Rattle.store_run.specs.declared.status.Status.{Status}
@@ -59,12 +59,12 @@ module _ {D : Type 0} (disks : DiskOf D) where
   }
 
   pub one_ran : (old new : Seen D) (line : List ℕ) (call : Call) (a b : Option (List ℕ)) (number : ℕ) (status : Status) → Says line (One call) → CallRan disks old call new a b (Err status)
-      → LineRan disks old line new a b number (Err status)
+      → ScriptLineRan disks old line new a b number (Err status)
   one_ran old new line call a b number WriteFault says x = call_begun old new line call a b says x
   one_ran old new line call a b number _ says x = absurd x
 
   pub collection_ran : (old new : Seen D) (line : List ℕ) (workers : ℕ) (a b : Option (List ℕ)) (number : ℕ) (result : Result (Unit {0}) Status) → Says line (Collect workers)
-      → CollectionRan disks old workers new a b result → LineRan disks old line new a b number result
+      → CollectionRan disks old workers new a b result → ScriptLineRan disks old line new a b number result
   collection_ran old new line workers a b number (Ok done) says x =
       record { history = x.history; acts = x.acts; follows = collect_line old.world.pages workers line x.history says x.makes; written = x.written }
   collection_ran old new line workers a b number (Err WriteFault) says x =
@@ -234,7 +234,7 @@ module _ {D : Type 0} (disks : DiskOf D) where
 
   pub front_stops : (a b c : Seen D) (bytes rest line after : List ℕ) (h i j : Option (List ℕ)) (before number : ℕ) (status : Status)
       → FrontDone disks a bytes b h i before number rest → SplitsAt 10 rest line after
-      → LineRan disks b line c i j (number + 1) (Err status) → FrontStopped disks a bytes c h j before status
+      → ScriptLineRan disks b line c i j (number + 1) (Err status) → FrontStopped disks a bytes c h j before status
   front_stops a b c bytes rest line after h i j before number (BadLine l column) x s y = front_bad a b c bytes rest line after h i j before number l column x s y
   front_stops a b c bytes rest line after h i j before number WriteFault x s y = front_begun a b c bytes rest line after h i j before number x s y
   front_stops a b c bytes rest line after h i j before number _ x s y = absurd y
@@ -264,7 +264,7 @@ module _ {D : Type 0} (disks : DiskOf D) where
   end_ran a b line h i number (Some n) is x = (x, ap is_some is)
 
   pub end_stops : (a b : Seen D) (line : List ℕ) (h i : Option (List ℕ)) (number : ℕ) (status : Status) → lines_of line ≡ line ∷ []
-      → LineRan disks a line b h i (number + 1) (Err status) → EndRan disks a line b h i number status
+      → ScriptLineRan disks a line b h i (number + 1) (Err status) → EndRan disks a line b h i number status
   end_stops a b line h i number (BadLine l column) only y = (only, y)
   end_stops a b line h i number WriteFault only y = (only, y)
   end_stops a b line h i number _ only y = absurd y

@@ -13,7 +13,7 @@ use Rattle.redo_journal.specs.Homes.{store_size}
 use Rattle.image_model.specs.Super.{is_page_count}
 use Rattle.image_model.specs.Opening.{Fault, StoreParts, not_a_store, damaged}
 use Rattle.image_model.specs.Stores.{IsStore, HasFault}
-use Rattle.image_model.specs.Stands.{StandsForWorld, opened}
+use Rattle.image_model.specs.Stands.{StandsForWorld, opened_world}
 use Rattle.recovery.specs.declared.faults.MakeFault.{MakeFault}
 use Rattle.recovery.specs.declared.faults.MakeFault.TheVariants.{BadPages as Make-BadPages, TooShort as Make-TooShort, Memory as Make-Memory, DiskFault as Make-DiskFault}
 use Rattle.recovery.specs.declared.faults.OpenFault.{OpenFault}
@@ -44,7 +44,7 @@ told_first None m P e h = tt
 told_first (Some a) None P e h = absurd cc
 told_first (Some a) (Some b) P e h = h
 
-fresh_now : (m : Option (List ℕ)) (w : World) (pages : ℕ) → IfSome m (λ file. w ≡ opened file) → IfSome m (λ file. opened file ≡ fresh_world pages) → IfSome m (λ _. w ≡ fresh_world pages)
+fresh_now : (m : Option (List ℕ)) (w : World) (pages : ℕ) → IfSome m (λ file. w ≡ opened_world file) → IfSome m (λ file. opened_world file ≡ fresh_world pages) → IfSome m (λ _. w ≡ fresh_world pages)
 fresh_now None w pages a b = tt
 fresh_now (Some file) w pages a b = a ∙ b
 
@@ -92,8 +92,8 @@ opening_not_short (Open-Damaged at) len need is = absurd cc
 opening_not_short Open-Memory len need is = absurd cc
 
 -- a store that was just made, and isn't fresh as it is opened
-pub another_store : (content now : Option (List ℕ)) (w : World) → is_some now ≡ is_some content → IfSome now (λ file. w ≡ opened file)
-    → IfSome now (λ file. opened file ≡ fresh_world store_pages) → (w.pages ≡ store_pages → w.commits ≡ 0 → ⊥) → content ≡ None
+pub another_store : (content now : Option (List ℕ)) (w : World) → is_some now ≡ is_some content → IfSome now (λ file. w ≡ opened_world file)
+    → IfSome now (λ file. opened_world file ≡ fresh_world store_pages) → (w.pages ≡ store_pages → w.commits ≡ 0 → ⊥) → content ≡ None
 another_store content None w told a b other = told_none content None told refl
 another_store content (Some file) w told a b other = let is : w ≡ fresh_world store_pages = a ∙ b in absurd (other (ap (λ (v : World). v.pages) is) (ap (λ (v : World). v.commits) is))
 
@@ -109,8 +109,8 @@ by_status _ from count history size content G N f x = absurd f
 
 module _ {D : Type 0} (disks : DiskOf D) where
   pub rounds_generated : (status : Status) (from count : ℕ) (disk made : D) (core : Seen D) (new : D) (h i : Option (List ℕ)) (N : Type 0)
-      → KeepsDisk disks disk made → disks.fault_count made ≡ disks.fault_count disk → IfSome (disks.content made) (λ file. opened file ≡ fresh_world store_pages)
-      → IfSome (disks.content made) (λ file. core.world ≡ opened file) → IsJustOpened core.world → disks.content core.disk ≡ disks.content made → KeepsDisk disks made core.disk
+      → KeepsDisk disks disk made → disks.fault_count made ≡ disks.fault_count disk → IfSome (disks.content made) (λ file. opened_world file ≡ fresh_world store_pages)
+      → IfSome (disks.content made) (λ file. core.world ≡ opened_world file) → IsJustOpened core.world → disks.content core.disk ≡ disks.content made → KeepsDisk disks made core.disk
       → RoundsMade disks status from count core new h i
       → GeneratedBy status (disks.size disk) (disks.content disk) (Generated disks status from count disk new h i) N
   rounds_generated status from count disk made core new h i N first calm fresh opens just kept second r =

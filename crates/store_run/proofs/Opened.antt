@@ -9,7 +9,7 @@ use Rattle.store_model.specs.Histories.{after}
 use Rattle.store_model.specs.Lawful.{IsLawful}
 use Rattle.image_model.specs.Opening.{StoreParts}
 use Rattle.image_model.specs.Stores.{IsStore}
-use Rattle.image_model.specs.Stands.{StandsForWorld, opened}
+use Rattle.image_model.specs.Stands.{StandsForWorld, opened_world}
 use Rattle.cut_core.specs.Seen.{Seen}
 use Rattle.cut_core.specs.Starts.{IsJustOpened}
 use Rattle.store_machine.specs.Acts.{Acts, RunsTo, IsLegalRun, StandsForFront}
@@ -37,7 +37,7 @@ pub not_broken : (w : World) → IsJustOpened w → w.broken ≡ None
 not_broken w just = ap (λ (v : World). v.broken) just.2
 
 -- what the disk told is a store, which opens to this world
-pub opens_to : (content : Option (List ℕ)) (w : World) → IfSome content (λ file. w ≡ opened file) → IfSome content (λ file. (store : StoreParts) × IsStore file store) → IfSome content (λ file. OpensTo file w)
+pub opens_to : (content : Option (List ℕ)) (w : World) → IfSome content (λ file. w ≡ opened_world file) → IfSome content (λ file. (store : StoreParts) × IsStore file store) → IfSome content (λ file. OpensTo file w)
 opens_to None w is store = tt
 opens_to (Some file) w is store = record { store = store; is = is }
 
@@ -56,7 +56,7 @@ told (Some a) f = f refl
 module _ {D : Type 0} (disks : DiskOf D) where
   -- what opening a store says of it
   pub record Opening (disk : D) (core : Seen D) : Type 0 where
-    pub world : IfSome (disks.content disk) (λ file. core.world ≡ opened file)
+    pub world : IfSome (disks.content disk) (λ file. core.world ≡ opened_world file)
     pub store : IfSome (disks.content disk) (λ file. (store : StoreParts) × IsStore file store)
     pub just_opened : IsJustOpened core.world
     pub content_kept : disks.content core.disk ≡ disks.content disk

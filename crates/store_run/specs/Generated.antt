@@ -5,7 +5,7 @@ use Rattle.disk_trait.specs.declared.disk.Disk.{Ghosts as DiskOf}
 use Rattle.object_graph.specs.declared.calls.Refusal.TheVariants.{DiskFault as Failed, Memory as NoMemory}
 use Rattle.store_model.specs.Worlds.{World, Event, fresh_world}
 use Rattle.store_model.specs.Faults.{FaultsAscend}
-use Rattle.store_model.specs.Histories.{IsLegal, IsRun, after}
+use Rattle.store_model.specs.Histories.{IsLegal, IsScriptRun, after}
 use Rattle.image_model.specs.Stands.{StandsForWorld}
 use Rattle.recovery.specs.declared.faults.MakeFault.{MakeFault}
 use Rattle.recovery.specs.declared.faults.MakeFault.TheVariants.{BadPages as Make-BadPages, TooShort as Make-TooShort, Memory as Make-Memory, DiskFault as Make-DiskFault}
@@ -61,7 +61,7 @@ pub record Generated {D : Type 0} (disks : DiskOf D) (status : Status) (from cou
   pub just_opened : IsJustOpened world
   pub fresh : IfSome (disks.content old) (λ _. world ≡ fresh_world store_pages)
   pub legal : IsLegal world history
-  pub is_run : IsRun world history
+  pub is_run : IsScriptRun world history
   pub follows : FollowsRounds status from count history
   pub written : WritesLine status held_before held_now (summary count world history)
   pub crashes : IfSome (disks.content old) (λ _. (file : List ℕ) → disks.may_leave new file

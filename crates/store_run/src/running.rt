@@ -3,7 +3,7 @@ ghost use Rattle.std.specs.Prelude.{◌≡◌, ◌≢◌, ◌+◌, ◌≤◌, �
 ghost use Rattle.script_lang.specs.Words.{Without};
 ghost use Rattle.disk_trait.specs.Causes.{Rose};
 ghost use Rattle.store_run.specs.Ran.{end_status};
-ghost use Rattle.store_run.specs.Lines.{LineRan, FrontRan, PieceRan, EndRan, ScriptRan};
+ghost use Rattle.store_run.specs.Lines.{ScriptLineRan, FrontRan, PieceRan, EndRan, ScriptRan};
 
 use crate::calls::{REPLY_ROOM, run_call, run_collection};
 use crate::meaning::meaning_of;
@@ -28,7 +28,7 @@ fn run_line<T: Threads + Sync, D: Disk, K: Sink, L: Ledger>(
     steps: &mut Steps<L>,
 ) -> Result<(), Status>
     requires { REPLY_ROOM ≤ vec_capacity buffer.old }
-    ensures ran { LineRan ⟦<D as Disk>⟧ core.old line.now core.new (K.held sink.old) (K.held sink.new) number result }
+    ensures ran { ScriptLineRan ⟦<D as Disk>⟧ core.old line.now core.new (K.held sink.old) (K.held sink.new) number result }
     ensures room { REPLY_ROOM ≤ vec_capacity buffer.new }
     ensures cause { result ≡ Err Status.WriteFault → Rose (K.faults sink.old) (K.faults sink.new) }
     ensures calm { result ≢ Err Status.WriteFault → K.faults sink.new ≡ K.faults sink.old }

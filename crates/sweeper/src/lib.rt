@@ -6,7 +6,7 @@ ghost use Rattle.object_graph.specs.SlotParts.{SlotParts};
 ghost use Rattle.object_graph.specs.Slots.{has_slot};
 ghost use Rattle.cut_model.specs.CutPages.{settled_image};
 ghost use Rattle.cut_model.specs.Doomed as rule;
-ghost use Rattle.cut_builder.specs.CutParts.{page_of, starts_of, marks_of, HasExactMarks};
+ghost use Rattle.cut_builder.specs.CutParts.{page_in_cut, cut_starts, marks_of, HasExactMarks};
 
 use cut_builder::MarkedCut;
 use object_graph::SlotSet;
@@ -15,8 +15,8 @@ use object_graph::SlotSet;
 /// those of the page's doomed names.
 pub fn doomed(marked: &MarkedCut, page: u32) -> SlotSet
     requires { page < length marked.now.cut.pages }
-    ensures doomed { (image : List SlotParts) → settled_image (page_of marked.now.cut.pages page) ≡ Some image → (slot : ℕ) → has_slot result slot ≡ rule.is_doomed image (page_of marked.now.cut.pages page).born (marks_of marked.now.marks page) slot }
-    ensures names { rule.AreDoomedOn (starts_of marked.now.cut) marked.now.cut.pages page result }
+    ensures doomed { (image : List SlotParts) → settled_image (page_in_cut marked.now.cut.pages page) ≡ Some image → (slot : ℕ) → has_slot result slot ≡ rule.is_doomed image (page_in_cut marked.now.cut.pages page).born (marks_of marked.now.marks page) slot }
+    ensures names { rule.AreDoomedOn (cut_starts marked.now.cut) marked.now.cut.pages page result }
     ensures exact { HasExactMarks marked.now }
 {
     let cut = marked.cut();

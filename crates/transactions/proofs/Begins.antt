@@ -16,7 +16,7 @@ use Rattle.store_model.specs.Replies.{AllowsReply, is_free}
 use Rattle.store_model.specs.Steps.{after_answer}
 use Rattle.page_locks.specs.Holding.{Held, LockTable, numbers, is_admitted, HaveSameLocks}
 use Rattle.transactions.specs.Tables.{OpenParts, Entries, entry_of, fresh_entry}
-use Rattle.transactions.specs.Standing.{TransactionsParts, numbers_of, wrote, AreAlike, IsTable, AreLocks, image_in, IsReady, Stands}
+use Rattle.transactions.specs.Standing.{TransactionsParts, open_numbers, wrote, AreAlike, IsTable, AreLocks, image_in, IsReady, AreTransactionsOf}
 use Rattle.transactions.proofs.Entries.{alike_by}
 use Rattle.transactions.proofs.Refusals.{refused}
 
@@ -46,7 +46,7 @@ same_transaction w txn other closed = elim (cases_eq other txn) [
   | inr ne ↦ ap (λ o. unwrap_or o (fresh_transaction other)) (found_before w txn other ne)
 ]
 
-numbers_begun : (w : World) (txn : ℕ) → numbers_of (begun w txn) ≡ numbers_of w ++ txn ∷ []
+numbers_begun : (w : World) (txn : ℕ) → open_numbers (begun w txn) ≡ open_numbers w ++ txn ∷ []
 numbers_begun w txn = reverse-append (txn ∷ []) (map (λ (t : Transaction). t.number) w.transactions)
 
 -- ---- the table
@@ -91,9 +91,9 @@ locks_begun w old new txn h closed admitted same pages = record {
 
 -- ---- all of it
 
-pub stands_begun : (s : TransactionsParts) (w : World) (txn : ℕ) (locks : LockTable) → Stands s w → entry_of s.table txn ≡ None → find_transaction w txn ≡ None
+pub stands_begun : (s : TransactionsParts) (w : World) (txn : ℕ) (locks : LockTable) → AreTransactionsOf s w → entry_of s.table txn ≡ None → find_transaction w txn ≡ None
     → numbers locks.held ≡ numbers s.locks.held ++ txn ∷ [] → HaveSameLocks s.locks.held locks.held → locks.pages ≡ s.locks.pages
-    → Stands (record { table = s.table ++ (txn, fresh_entry) ∷ []; locks = locks; frames = s.frames }) (begun w txn)
+    → AreTransactionsOf (record { table = s.table ++ (txn, fresh_entry) ∷ []; locks = locks; frames = s.frames }) (begun w txn)
 stands_begun s w txn locks h none closed admitted same pages = record {
   fields = h.fields;
   table = table_begun w s.table txn h.table none;
@@ -118,18 +118,18 @@ stands_begun s w txn locks h none closed admitted same pages = record {
 -- ---- the replies
 
 -- the numbers in the table, of those admitted, and of the open transactions are as many
-pub count_open : (s : TransactionsParts) (w : World) → Stands s w → length s.table ≡ length w.transactions
+pub count_open : (s : TransactionsParts) (w : World) → AreTransactionsOf s w → length s.table ≡ length w.transactions
 count_open s w h =
     sym (length-map s.table (λ (e : ℕ × OpenParts). e.0))
     ∙ (ap length h.table.numbers ∙ (length-reverse (map (λ (t : Transaction). t.number) w.transactions) ∙ length-map w.transactions (λ (t : Transaction). t.number)))
 
-pub count_admitted : (s : TransactionsParts) (w : World) → Stands s w → length s.locks.held ≡ length s.table
+pub count_admitted : (s : TransactionsParts) (w : World) → AreTransactionsOf s w → length s.locks.held ≡ length s.table
 count_admitted s w h =
     sym (length-map s.locks.held (λ (l : Held). l.txn))
     ∙ (ap length (h.locks.admitted ∙ sym h.table.numbers) ∙ length-map s.table (λ (e : ℕ × OpenParts). e.0))
 
 -- who isn't open isn't admitted
-pub not_admitted : (s : TransactionsParts) (w : World) (txn : ℕ) → Stands s w → entry_of s.table txn ≡ None → is_admitted s.locks.held txn ≡ false
+pub not_admitted : (s : TransactionsParts) (w : World) (txn : ℕ) → AreTransactionsOf s w → entry_of s.table txn ≡ None → is_admitted s.locks.held txn ≡ false
 not_admitted s w txn h none = elim (cases_Bool (is_admitted s.locks.held txn)) [
   | inr e ↦ e
   | inl e ↦ absurd (held_not s.table s.locks.held (h.locks.admitted ∙ sym h.table.numbers) e none)

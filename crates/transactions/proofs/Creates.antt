@@ -12,15 +12,15 @@ use Rattle.object_graph.proofs.Paths.{name_of}
 use Rattle.object_graph.specs.declared.limits.TheConstants.{MOST_KNOWN}
 use Rattle.store_model.specs.Worlds.{World, Transaction, nothing, view, slots_of, fields_of}
 use Rattle.store_model.specs.Images.{shown_slot}
-use Rattle.store_model.specs.Causes.{first_met, first_refusal, when, no_page, knows_too_many, page_full, free_slot, name_at, new_name}
+use Rattle.store_model.specs.Causes.{first_met, first_refusal, when, no_page, knows_too_many, page_full, free_slot, new_name_at, new_name}
 use Rattle.store_model.specs.Replies.{AnswersNew}
 use Rattle.store_model.specs.Steps.{with_page, with_target, with_transaction, with_new, makes}
 use Rattle.page_image.specs.Slots.{fresh_slot, has_room, taken}
 use Rattle.page_image.specs.Pages.{PageParts, slot_at, with_slot, IsFull, IsNextName}
-use Rattle.page_buffer.specs.Frames.{frame_at, with_frame, written}
+use Rattle.page_buffer.specs.Frames.{frame_at, with_frame, frame_written}
 use Rattle.page_locks.specs.Holding.{is_in_way, IsNobody, AddsExclusive}
 use Rattle.transactions.specs.Tables.{OpenParts, HaveSamePages, HaveSameNames, ChangesEntry, NotesPage, NotesTarget}
-use Rattle.transactions.specs.Standing.{TransactionsParts, image_in, IsEntry, AreFramesOf, IsReady, Stands}
+use Rattle.transactions.specs.Standing.{TransactionsParts, image_in, IsEntry, AreFramesOf, IsReady, AreTransactionsOf}
 use Rattle.transactions.specs.Checks.{open_causes, write_causes, IsOpenWith, MayWrite}
 use Rattle.transactions.proofs.Shown.{length-shown, get-shown}
 use Rattle.transactions.proofs.FreeSlots.{first_free, none_free}
@@ -96,13 +96,13 @@ pub record HasMade (s new : TransactionsParts) (txn page : ℕ) (name : NamePart
   pub pages : new.locks.pages ≡ s.locks.pages
   pub noted : ChangesEntry (ChangesTwice (NotesPage page) (NotesTarget (Some name))) txn s.table new.table
   pub next : IsNextName (frame_at s.frames page).current name
-  pub frames : new.frames ≡ with_frame s.frames page (written (frame_at s.frames page) (with_slot (frame_at s.frames page).current name.slot taken))
+  pub frames : new.frames ≡ with_frame s.frames page (frame_written (frame_at s.frames page) (with_slot (frame_at s.frames page).current name.slot taken))
 
 -- the name is the model's, and all stands for the world with the object
 pub record IsMade (w : World) (new : TransactionsParts) (txn page : ℕ) (name : NameParts) : Type 0 where
   pub free : free_slot w txn page ≡ Some name.slot
   pub named : new_name w txn page ≡ Some name
-  pub stands : Stands new (with_transaction w txn (makes name))
+  pub stands : AreTransactionsOf new (with_transaction w txn (makes name))
 
 entry_makes : (e f : OpenParts) (t : Transaction) (page : ℕ) (name : NameParts) → name.page ≡ page → IsEntry e t → ChangesTwice (NotesPage page) (NotesTarget (Some name)) e f → IsEntry f (makes name t)
 entry_makes e f t page name is h notes =
@@ -116,17 +116,17 @@ entry_makes e f t page name is h notes =
     }
 
 made_at : (s new : TransactionsParts) (w : World) (txn : ℕ) (e : OpenParts) (page slot : ℕ) (o : IsOpened s w txn e) → page < w.pages → IsNobody (is_in_way true s.locks.held txn page)
-    → slot < slots_of w page → free_slot w txn page ≡ Some slot → IsFreePlace w o.of page slot → HasMade s new txn page (name_at w.graph page slot) → IsMade w new txn page (name_at w.graph page slot)
+    → slot < slots_of w page → free_slot w txn page ≡ Some slot → IsFreePlace w o.of page slot → HasMade s new txn page (new_name_at w.graph page slot) → IsMade w new txn page (new_name_at w.graph page slot)
 made_at s new w txn e page slot o low nobody within found free run = record {
   free = found;
-  named = ap (option_map (name_at w.graph page)) found;
+  named = ap (option_map (new_name_at w.graph page)) found;
   stands = record {
     fields = o.ready.stands.fields;
     table = table_changes w s.table new.table txn e o.of (ChangesTwice (NotesPage page) (NotesTarget (Some name))) (makes name) o.ready.stands.table o.is o.found (λ t. refl) run.noted
         (λ f h. entry_makes e f o.of page name refl o.entry h);
     locks = locks_exclude w s.locks new.locks txn page (makes name) o.of o.ready.stands.locks o.found (λ t. refl) refl refl run.pages run.locked;
     frames = subst (AreFramesOf (with_transaction w txn (makes name))) (sym run.frames)
-        (frames_change w s.frames txn page (written (frame_at s.frames page) (with_slot (frame_at s.frames page).current slot taken)) (makes name) o.of
+        (frames_change w s.frames txn page (frame_written (frame_at s.frames page) (with_slot (frame_at s.frames page).current slot taken)) (makes name) o.of
         o.ready.stands.frames low o.found (λ t. refl) refl (λ u ne. nobody_wrote s w true txn page u o.ready nobody ne) refl refl
         (ap (λ i. with_slot i slot taken) (seen_image s w txn e page o low nobody)
         ∙ ap (λ slots. record { number = page; slots = slots }) (new_on_page w txn o.of page slot fresh_slot o.ready.lawful o.found free within))
@@ -135,12 +135,12 @@ made_at s new w txn e page slot o low nobody within found free run = record {
 }
   where
     name : NameParts
-    name = name_at w.graph page slot
+    name = new_name_at w.graph page slot
 
 -- the name that the page gives is the model's
 next_is : (w : World) (t : Transaction) (page : ℕ) (image : PageParts) (name : NameParts) → image ≡ image_in w (view w t) page → IsNextName image name → name.slot < slots_of w page
     → (shown_slot (fields_of w page) (view w t) w.freed page name.slot).generation ≡ length (objects_at w.graph page name.slot)
-    → name ≡ name_at w.graph page name.slot
+    → name ≡ new_name_at w.graph page name.slot
 next_is w t page image name is next within generation =
     ap (λ p. name_of p name.slot name.generation) (next.page ∙ ap (λ (i : PageParts). i.number) is)
     ∙ ap (λ g. name_of page name.slot g)
@@ -158,7 +158,7 @@ creates s new w txn e page name m run =
     let found : free_slot w txn page ≡ Some name.slot =
     first_free w txn o.of page name.slot o.ready.lawful o.found within room
     (λ slot lt. let less : slot < slots_of w page = let k = within in omega arith in sym (ap has_room (slot_seen w o.of page slot now image less)) ∙ run.next.slot.least slot lt) in
-    let same : name ≡ name_at w.graph page name.slot = next_is w o.of page now name image run.next within (free_generation w o.of page name.slot free) in
+    let same : name ≡ new_name_at w.graph page name.slot = next_is w o.of page now name image run.next within (free_generation w o.of page name.slot free) in
     subst (λ n. IsMade w new txn page n) (sym same)
     (made_at s new w txn e page name.slot o m.low m.may.nobody within found free (subst (λ n. HasMade s new txn page n) same run))
 
@@ -166,5 +166,5 @@ creates s new w txn e page name m run =
 pub answers_made : (w : World) (txn page : ℕ) (name : NameParts) → new_name w txn page ≡ Some name → AnswersNew (new_name w txn page) (Made name)
 answers_made w txn page name is = subst (λ x. AnswersNew x (Made name)) (sym is) refl
 
-pub stands_made : (w : World) (new : TransactionsParts) (txn page : ℕ) (name : NameParts) → IsMade w new txn page name → Stands new (with_new w txn (new_name w txn page))
-stands_made w new txn page name made = subst (λ x. Stands new (with_new w txn x)) (sym made.named) made.stands
+pub stands_made : (w : World) (new : TransactionsParts) (txn page : ℕ) (name : NameParts) → IsMade w new txn page name → AreTransactionsOf new (with_new w txn (new_name w txn page))
+stands_made w new txn page name made = subst (λ x. AreTransactionsOf new (with_new w txn x)) (sym made.named) made.stands

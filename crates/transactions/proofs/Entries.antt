@@ -13,7 +13,7 @@ use Rattle.store_model.specs.Worlds.{World, Transaction, find_transaction}
 use Rattle.store_model.specs.Causes.{has_page}
 use Rattle.store_model.specs.Steps.{with_page, with_name, with_target, with_transaction}
 use Rattle.transactions.specs.Tables.{OpenParts, Entries, entry_of, ChangesEntry, HaveSamePages, HaveSameNames}
-use Rattle.transactions.specs.Standing.{numbers_of, IsEntry, AreAlike, IsTable}
+use Rattle.transactions.specs.Standing.{open_numbers, IsEntry, AreAlike, IsTable}
 use Rattle.indexmap.specs.Layout.{set_value_at}
 use Rattle.transactions.proofs.Numbers.{KeepsNumber, find-with_same, find-with_other}
 
@@ -96,7 +96,7 @@ map-kept f g e [] = refl
 map-kept f g e (x ∷ xs) = ap (λ y. y ∷ map f (map g xs)) (e x) ∙ ap (λ ys. f x ∷ ys) (map-kept f g e xs)
 
 -- a change of one transaction leaves the numbers
-pub numbers-with_transaction : (w : World) (txn : ℕ) (change : Transaction → Transaction) → KeepsNumber change → numbers_of (with_transaction w txn change) ≡ numbers_of w
+pub numbers-with_transaction : (w : World) (txn : ℕ) (change : Transaction → Transaction) → KeepsNumber change → open_numbers (with_transaction w txn change) ≡ open_numbers w
 numbers-with_transaction w txn change kept =
     ap reverse (map-kept (λ (t : Transaction). t.number) (λ t. cond (t.number == txn) (change t) t) (λ t. kept_by t (t.number == txn)) w.transactions)
   where

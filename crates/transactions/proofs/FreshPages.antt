@@ -15,7 +15,7 @@ use Rattle.store_model.proofs.Lawfulness.{fresh_is_lawful_world}
 use Rattle.store_model.proofs.ShownWorlds.{shows_root, shows_whole}
 use Rattle.page_image.specs.Slots.{taken}
 use Rattle.page_image.specs.Pages.{PageParts, empty_page, with_slot}
-use Rattle.transactions.specs.Standing.{images_of, AreNumbered}
+use Rattle.transactions.specs.Standing.{page_images, AreNumbered}
 
 abbrev by_root : ℕ → Bool → PageParts
 by_root number root = if root then with_slot (empty_page 0) 0 taken else empty_page number
@@ -38,10 +38,10 @@ slots_are count page = by (nat_eq page 0) ∙ sym (fresh_shown count page)
     by true = refl
     by false = refl
 
-images_are : (count : ℕ) → images_of (fresh_pages count) ≡ all_shown (fresh_world count)
+images_are : (count : ℕ) → page_images (fresh_pages count) ≡ all_shown (fresh_world count)
 images_are count = each (below count)
   where
-    each : (pages : List ℕ) → images_of (map fresh pages) ≡ map (shown (fresh_world count)) pages
+    each : (pages : List ℕ) → page_images (map fresh pages) ≡ map (shown (fresh_world count)) pages
     each [] = refl
     each (page ∷ pages) = λ i. slots_are count page i ∷ each pages i
 
@@ -64,8 +64,8 @@ are_numbered count page p is =
     ap (λ (q : PageParts). q.number) (sym (get_or_from_slice_get (fresh_pages count) page p (empty_page 0) is) ∙ get-map_below fresh count page (empty_page 0) low)
     ∙ number_is page
 
-pub have_root : (count : ℕ) → 0 < count → IsTrue (has_root (images_of (fresh_pages count)))
+pub have_root : (count : ℕ) → 0 < count → IsTrue (has_root (page_images (fresh_pages count)))
 have_root count some = ap has_root (images_are count) ∙ shows_root (fresh_world count) (fresh_is_lawful_world count some).orderly
 
-pub are_whole : (count : ℕ) → 0 < count → IsWhole (images_of (fresh_pages count))
+pub are_whole : (count : ℕ) → 0 < count → IsWhole (page_images (fresh_pages count))
 are_whole count some = subst IsWhole (sym (images_are count)) (shows_whole (fresh_world count) (fresh_is_lawful_world count some))

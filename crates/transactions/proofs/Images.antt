@@ -9,7 +9,7 @@ use Rattle.object_graph.specs.ObjectParts.{ObjectParts}
 use Rattle.object_graph.specs.Graphs.{objects_at, is_at}
 use Rattle.store_model.specs.Worlds.{World, Transaction, Write, link, assign, view, with_writes, written_by, new_object, slots_of, fields_of}
 use Rattle.store_model.specs.Images.{shown_slot, shown_in, slot_with}
-use Rattle.page_image.specs.Slots.{with_number, with_ref}
+use Rattle.page_image.specs.Slots.{slot_with_number, slot_with_ref}
 use Rattle.store_model.specs.Causes.{has_page}
 use Rattle.store_model.specs.Steps.{writes}
 use Rattle.store_model.specs.Lawful.{IsOwn, IsLawfulTransaction}
@@ -63,23 +63,23 @@ slot_of_known w t name d there lt =
 
 -- a number is written
 pub number_on_page : (w : World) (t : Transaction) (name : NameParts) (value of : ℕ) (d : SlotParts) → IsThere w t name → name.slot < slots_of w name.page
-    → set (shown_in w (view w t) name.page) name.slot (with_number value (get_or (shown_in w (view w t) name.page) name.slot d))
+    → set (shown_in w (view w t) name.page) name.slot (slot_with_number value (get_or (shown_in w (view w t) name.page) name.slot d))
     ≡ shown_in w (view w (writes (assign name value) of t)) name.page
 number_on_page w t name value of d there lt =
-    write_on_page w t (assign name value) of (with_number value (get_or (shown_in w (view w t) name.page) name.slot d)) there lt
+    write_on_page w t (assign name value) of (slot_with_number value (get_or (shown_in w (view w t) name.page) name.slot d)) there lt
     (ap (λ o. slot_with (fields_of w name.page) (o ∷ []) (length (objects_at (view w t) name.page name.slot)))
     (cond-true (name_eq there.object.name name) (record there.object { number = value }) there.object (subst (λ n. name_eq n name ≡ true) (sym there.named) (name_eq_refl name)))
-    ∙ sym (ap (with_number value) (slot_of_known w t name d there lt)))
+    ∙ sym (ap (slot_with_number value) (slot_of_known w t name d there lt)))
 
 -- a reference is written
 pub ref_on_page : (w : World) (t : Transaction) (name : NameParts) (field : ℕ) (target : Option NameParts) (of : ℕ) (d : SlotParts) → IsThere w t name → name.slot < slots_of w name.page
-    → set (shown_in w (view w t) name.page) name.slot (with_ref field target (get_or (shown_in w (view w t) name.page) name.slot d))
+    → set (shown_in w (view w t) name.page) name.slot (slot_with_ref field target (get_or (shown_in w (view w t) name.page) name.slot d))
     ≡ shown_in w (view w (writes (link name field target) of t)) name.page
 ref_on_page w t name field target of d there lt =
-    write_on_page w t (link name field target) of (with_ref field target (get_or (shown_in w (view w t) name.page) name.slot d)) there lt
+    write_on_page w t (link name field target) of (slot_with_ref field target (get_or (shown_in w (view w t) name.page) name.slot d)) there lt
     (ap (λ o. slot_with (fields_of w name.page) (o ∷ []) (length (objects_at (view w t) name.page name.slot)))
     (cond-true (name_eq there.object.name name) (record there.object { refs = slice_set there.object.refs field target }) there.object (subst (λ n. name_eq n name ≡ true) (sym there.named) (name_eq_refl name)))
-    ∙ sym (ap (with_ref field target) (slot_of_known w t name d there lt)))
+    ∙ sym (ap (slot_with_ref field target) (slot_of_known w t name d there lt)))
 
 -- ---- a commit, and what others see
 

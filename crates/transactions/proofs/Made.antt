@@ -13,7 +13,7 @@ use Rattle.object_graph.specs.declared.limits.TheConstants.{LAST_GENERATION}
 use Rattle.store_model.specs.Worlds.{World, Transaction, Write, link, assign, view, with_writes, written_by, new_object, is_unfreed, slots_of, fields_of, find_transaction}
 use Rattle.store_model.specs.Images.{unfreed_at, shown_slot, shown_in, slot_with}
 use Rattle.page_image.specs.Slots.{has_room, taken}
-use Rattle.store_model.specs.Causes.{is_occupied, name_at, has_page}
+use Rattle.store_model.specs.Causes.{is_occupied, new_name_at, has_page}
 use Rattle.store_model.specs.Steps.{makes}
 use Rattle.store_model.specs.Lawful.{IsKnownWrite, IsLawfulTransaction, IsLawful}
 use Rattle.object_graph.proofs.Members.{In, in_any, in_filter, filter_in, each_in, each_from, or_left}
@@ -77,14 +77,14 @@ unwritten_object (x ∷ xs) o h = ap (written_by x) (unwritten_object xs o h.1) 
 
 -- the next name of a free place is not known yet
 pub next_is_unknown : (w : World) (t : Transaction) (page slot : ℕ) → IsLawful w → IsLawfulTransaction w.graph w.freed t → IsFreePlace w t page slot
-    → has_name t.known (name_at w.graph page slot) ≡ false
-next_is_unknown w t page slot lawful lt free = false_from_ne_true (has_name t.known (name_at w.graph page slot)) (λ known.
-    elim (own_or_there w t (name_at w.graph page slot) lt known) [
+    → has_name t.known (new_name_at w.graph page slot) ≡ false
+next_is_unknown w t page slot lawful lt free = false_from_ne_true (has_name t.known (new_name_at w.graph page slot)) (λ known.
+    elim (own_or_there w t (new_name_at w.graph page slot) lt known) [
       | inl own ↦
-          subst (λ ns. In (name_at w.graph page slot) ns) free.own
-          (filter_in (is_at page slot) t.own (name_at w.graph page slot) (has_name_in t.own (name_at w.graph page slot) own) (and_from (page == page) (slot == slot) (eq-eqb page page refl) (eq-eqb slot slot refl)))
+          subst (λ ns. In (new_name_at w.graph page slot) ns) free.own
+          (filter_in (is_at page slot) t.own (new_name_at w.graph page slot) (has_name_in t.own (new_name_at w.graph page slot) own) (and_from (page == page) (slot == slot) (eq-eqb page page refl) (eq-eqb slot slot refl)))
       | inr there ↦
-          let new : has_object w.graph (name_at w.graph page slot) ≡ false = next_name_is_new w (name_at w.graph page slot) lawful.orderly.counted refl in
+          let new : has_object w.graph (new_name_at w.graph page slot) ≡ false = next_name_is_new w (new_name_at w.graph page slot) lawful.orderly.counted refl in
           let z : true ≡ false = sym there ∙ new in cc
     ])
 
@@ -100,7 +100,7 @@ free_generation w t page slot free =
 
 -- the new object shows at its place
 pub made_here : (w : World) (txn : ℕ) (t : Transaction) (page slot : ℕ) → IsLawful w → find_transaction w txn ≡ Some t → IsFreePlace w t page slot
-    → shown_slot (fields_of w page) (view w (makes (name_at w.graph page slot) t)) w.freed page slot
+    → shown_slot (fields_of w page) (view w (makes (new_name_at w.graph page slot) t)) w.freed page slot
     ≡ taken (shown_slot (fields_of w page) (view w t) w.freed page slot)
 made_here w txn t page slot lawful found free =
     ap (λ us. slot_with (fields_of w page) us (length (objects_at (view w (makes name t)) page slot)))
@@ -113,45 +113,45 @@ made_here w txn t page slot lawful found free =
     ∙ ap (λ k. record { in_use = true; generation = k; number = 0; refs = replicate (fields_of w page) None }) next
   where
     name : NameParts
-    name = name_at w.graph page slot
+    name = new_name_at w.graph page slot
 
     lt : IsLawfulTransaction w.graph w.freed t
     lt = each_in (IsLawfulTransaction w.graph w.freed) w.transactions t lawful.orderly.transactions (found_in_list (λ (t : Transaction). t.number == txn) w.transactions t found).0
 
-    at : is_at page slot (name_at w.graph page slot) ≡ true
+    at : is_at page slot (new_name_at w.graph page slot) ≡ true
     at = and_from (page == page) (slot == slot) (eq-eqb page page refl) (eq-eqb slot slot refl)
 
-    unfreed : not (has_name w.freed (name_at w.graph page slot)) ≡ true
-    unfreed = ap not (false_from_ne_true (has_name w.freed (name_at w.graph page slot)) (λ f.
-        let there : has_object w.graph (name_at w.graph page slot) ≡ true = each_in (λ name. has_object w.graph name ≡ true) w.freed (name_at w.graph page slot) lawful.orderly.freed_there (has_name_in w.freed (name_at w.graph page slot) f) in
-        let new : has_object w.graph (name_at w.graph page slot) ≡ false = next_name_is_new w (name_at w.graph page slot) lawful.orderly.counted refl in
+    unfreed : not (has_name w.freed (new_name_at w.graph page slot)) ≡ true
+    unfreed = ap not (false_from_ne_true (has_name w.freed (new_name_at w.graph page slot)) (λ f.
+        let there : has_object w.graph (new_name_at w.graph page slot) ≡ true = each_in (λ name. has_object w.graph name ≡ true) w.freed (new_name_at w.graph page slot) lawful.orderly.freed_there (has_name_in w.freed (new_name_at w.graph page slot) f) in
+        let new : has_object w.graph (new_name_at w.graph page slot) ≡ false = next_name_is_new w (new_name_at w.graph page slot) lawful.orderly.counted refl in
         let z : true ≡ false = sym there ∙ new in cc))
 
-    unwritten : AllByRecursion (λ x. name_eq (name_at w.graph page slot) (written_name x) ≡ false) t.writes
-    unwritten = each_from (λ x. name_eq (name_at w.graph page slot) (written_name x) ≡ false) t.writes (λ x m. false_from_ne_true (name_eq (name_at w.graph page slot) (written_name x)) (λ e.
+    unwritten : AllByRecursion (λ x. name_eq (new_name_at w.graph page slot) (written_name x) ≡ false) t.writes
+    unwritten = each_from (λ x. name_eq (new_name_at w.graph page slot) (written_name x) ≡ false) t.writes (λ x m. false_from_ne_true (name_eq (new_name_at w.graph page slot) (written_name x)) (λ e.
         let k = known_write_name t x (each_in (IsKnownWrite t) t.writes x lt.writes m) in
-        let same = name_eq_same (name_at w.graph page slot) (written_name x) e in
-        let y : has_name t.known (name_at w.graph page slot) ≡ true = subst (λ n. has_name t.known n ≡ true) (sym same) k in
+        let same = name_eq_same (new_name_at w.graph page slot) (written_name x) e in
+        let y : has_name t.known (new_name_at w.graph page slot) ≡ true = subst (λ n. has_name t.known n ≡ true) (sym same) k in
         let z : true ≡ false = sym y ∙ next_is_unknown w t page slot lawful lt free in cc))
 
     next : 1 + length (objects_at w.graph page slot) ≡ (shown_slot (fields_of w page) (view w t) w.freed page slot).generation + 1
     next = let g = free_generation w t page slot free in omega arith
 
-off_slot : (w : World) (page slot other : ℕ) → other ≢ slot → is_at page other (name_at w.graph page slot) ≡ false
+off_slot : (w : World) (page slot other : ℕ) → other ≢ slot → is_at page other (new_name_at w.graph page slot) ≡ false
 off_slot w page slot other ne = and_right (page == page) (slot == other) (ne_eqb slot other (λ f. ne (sym f)))
 
 -- a new object changes one slot of its page, and no other page
 pub new_on_page : (w : World) (txn : ℕ) (t : Transaction) (page slot : ℕ) (d : SlotParts) → IsLawful w → find_transaction w txn ≡ Some t → IsFreePlace w t page slot → slot < slots_of w page
-    → set (shown_in w (view w t) page) slot (taken (get_or (shown_in w (view w t) page) slot d)) ≡ shown_in w (view w (makes (name_at w.graph page slot) t)) page
+    → set (shown_in w (view w t) page) slot (taken (get_or (shown_in w (view w t) page) slot d)) ≡ shown_in w (view w (makes (new_name_at w.graph page slot) t)) page
 new_on_page w txn t page slot d lawful found free lt =
-    set-shown (slots_of w page) (fields_of w page) (view w t) (view w (makes (name_at w.graph page slot) t)) w.freed page slot
+    set-shown (slots_of w page) (fields_of w page) (view w t) (view w (makes (new_name_at w.graph page slot) t)) w.freed page slot
     (taken (get_or (shown_in w (view w t) page) slot d)) lt
     (made_here w txn t page slot lawful found free ∙ ap (taken) (sym (get-shown (slots_of w page) (fields_of w page) (view w t) w.freed page slot d lt)))
-    (λ j below_n ne. shown_from_place (fields_of w page) (view w (makes (name_at w.graph page slot) t)) (view w t) w.freed page j (made_elsewhere w t (name_at w.graph page slot) page j (off_slot w page slot j ne)))
+    (λ j below_n ne. shown_from_place (fields_of w page) (view w (makes (new_name_at w.graph page slot) t)) (view w t) w.freed page j (made_elsewhere w t (new_name_at w.graph page slot) page j (off_slot w page slot j ne)))
 
 pub new_on_another_page : (w : World) (t : Transaction) (page slot other : ℕ) → other ≢ page
-    → shown_in w (view w (makes (name_at w.graph page slot) t)) other ≡ shown_in w (view w t) other
+    → shown_in w (view w (makes (new_name_at w.graph page slot) t)) other ≡ shown_in w (view w t) other
 new_on_another_page w t page slot other ne =
-    same_shown (slots_of w other) (fields_of w other) (view w (makes (name_at w.graph page slot) t)) (view w t) w.freed w.freed other
-    (λ s l. shown_from_place (fields_of w other) (view w (makes (name_at w.graph page slot) t)) (view w t) w.freed other s
-    (made_elsewhere w t (name_at w.graph page slot) other s (and_left (page == other) (slot == s) (ne_eqb page other (λ f. ne (sym f))))))
+    same_shown (slots_of w other) (fields_of w other) (view w (makes (new_name_at w.graph page slot) t)) (view w t) w.freed w.freed other
+    (λ s l. shown_from_place (fields_of w other) (view w (makes (new_name_at w.graph page slot) t)) (view w t) w.freed other s
+    (made_elsewhere w t (new_name_at w.graph page slot) other s (and_left (page == other) (slot == s) (ne_eqb page other (λ f. ne (sym f))))))

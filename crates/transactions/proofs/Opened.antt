@@ -13,7 +13,7 @@ use Rattle.store_model.specs.Lawful.{IsLawfulTransaction}
 use Rattle.store_model.proofs.Orders.{IsPlacedName, lawful_one, placed_one}
 use Rattle.page_locks.specs.Holding.{Held, is_admitted, numbers}
 use Rattle.transactions.specs.Tables.{OpenParts, entry_of}
-use Rattle.transactions.specs.Standing.{TransactionsParts, numbers_of, IsEntry, AreAlike, IsReady}
+use Rattle.transactions.specs.Standing.{TransactionsParts, open_numbers, IsEntry, AreAlike, IsReady}
 use Rattle.transactions.specs.Checks.{IsOpenWith, IsKnownTo}
 use Rattle.transactions.proofs.Numbers.{found_in_list, transaction_found}
 use Rattle.transactions.proofs.Seen.{IsThere, known_object, own_or_there}
@@ -83,7 +83,7 @@ any-map p f (x ∷ xs) = ap (λ b. p (f x) || b) (any-map p f xs)
 open_admitted : (s : TransactionsParts) (w : World) (txn : ℕ) (e : OpenParts) → IsOpened s w txn e → is_admitted s.locks.held txn ≡ true
 open_admitted s w txn e o =
     let found = found_in_list (λ (t : Transaction). t.number == txn) w.transactions o.of o.found in
-    let member : In o.of.number (numbers_of w) = in_reverse (map (λ (t : Transaction). t.number) w.transactions) o.of.number (map_in (λ (t : Transaction). t.number) w.transactions o.of found.0) in
+    let member : In o.of.number (open_numbers w) = in_reverse (map (λ (t : Transaction). t.number) w.transactions) o.of.number (map_in (λ (t : Transaction). t.number) w.transactions o.of found.0) in
     sym (any-map (λ n. n == txn) (λ h. h.txn) s.locks.held)
     ∙ in_any (λ n. n == txn) (numbers s.locks.held) o.of.number (subst (λ ns. In o.of.number ns) (sym o.ready.stands.locks.admitted) member) found.1
 

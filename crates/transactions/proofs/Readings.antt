@@ -18,7 +18,7 @@ use Rattle.page_image.specs.Pages.{object_of, object_at}
 use Rattle.page_buffer.specs.Frames.{frame_at}
 use Rattle.page_locks.specs.Holding.{is_in_way, IsNobody, AddsShared}
 use Rattle.transactions.specs.Tables.{OpenParts, is_full_for, HaveSamePages, ChangesEntry, NotesTarget}
-use Rattle.transactions.specs.Standing.{TransactionsParts, IsEntry, IsTable, AreFramesOf, IsReady, Stands}
+use Rattle.transactions.specs.Standing.{TransactionsParts, IsEntry, IsTable, AreFramesOf, IsReady, AreTransactionsOf}
 use Rattle.transactions.specs.Checks.{name_causes, field_causes, IsKnownTo}
 use Rattle.transactions.proofs.Numbers.{transaction_found}
 use Rattle.transactions.proofs.Seen.{object_found, known_unfreed, there_fields}
@@ -127,7 +127,7 @@ pub record HasRead (s new : TransactionsParts) (txn page : ℕ) : Type 0 where
   pub frames : new.frames ≡ s.frames
 
 number_here : (s new : TransactionsParts) (w : World) (txn : ℕ) (e : OpenParts) (page : ℕ) → IsOpened s w txn e → new.table ≡ s.table → HasRead s new txn page
-    → Stands new (with_transaction w txn (reads_page page))
+    → AreTransactionsOf new (with_transaction w txn (reads_page page))
 number_here s new w txn e page o same run = record {
   fields = o.ready.stands.fields;
   table = table_stays w new.table txn o.of (reads_page page) (subst (IsTable w) (sym same) o.ready.stands.table) o.found (λ t. refl) (λ f h. record { known = h.known; written = h.written });
@@ -137,8 +137,8 @@ number_here s new w txn e page o same run = record {
 
 -- all stands for the world after a number was read
 pub number_stands : (s new : TransactionsParts) (w : World) (txn : ℕ) (e : OpenParts) (name : NameParts) (page : ℕ) → KnowsIn s w txn name e → page ≡ name.page → new.table ≡ s.table → HasRead s new txn page
-    → Stands new (with_transaction w txn (reads_page name.page))
-number_stands s new w txn e name page knows is same run = subst (λ p. Stands new (with_transaction w txn (reads_page p))) is (number_here s new w txn e page (open_in s w txn e knows.ready knows.known.found) same run)
+    → AreTransactionsOf new (with_transaction w txn (reads_page name.page))
+number_stands s new w txn e name page knows is same run = subst (λ p. AreTransactionsOf new (with_transaction w txn (reads_page p))) is (number_here s new w txn e page (open_in s w txn e knows.ready knows.known.found) same run)
 
 entry_gets : (e f : OpenParts) (t : Transaction) (target : Option NameParts) (page : ℕ) → IsEntry e t → NotesTarget target e f
     → IsEntry f (reads_page page (record t { known = with_target target t.known }))
@@ -151,7 +151,7 @@ abbrev pub got : ℕ → Option NameParts → Transaction → Transaction
 got page target u = reads_page page (record u { known = with_target target u.known })
 
 get_here : (s new : TransactionsParts) (w : World) (txn : ℕ) (e : OpenParts) (page : ℕ) (target : Option NameParts) → IsOpened s w txn e → ChangesEntry (NotesTarget target) txn s.table new.table → HasRead s new txn page
-    → Stands new (with_transaction w txn (got page target))
+    → AreTransactionsOf new (with_transaction w txn (got page target))
 get_here s new w txn e page target o notes run = record {
   fields = o.ready.stands.fields;
   table = table_changes w s.table new.table txn e o.of (NotesTarget target) (got page target) o.ready.stands.table o.is o.found (λ t. refl) notes (λ f h. entry_gets e f o.of target page o.entry h);
@@ -162,7 +162,7 @@ get_here s new w txn e page target o notes run = record {
 -- all stands for the world after a reference was got
 pub get_stands : (s new : TransactionsParts) (w : World) (txn : ℕ) (e : OpenParts) (name : NameParts) (field page : ℕ) (target : Option NameParts) → KnowsIn s w txn name e → page ≡ name.page
     → target ≡ field_seen w txn name field → ChangesEntry (NotesTarget target) txn s.table new.table → HasRead s new txn page
-    → Stands new (with_transaction w txn (got name.page (field_seen w txn name field)))
+    → AreTransactionsOf new (with_transaction w txn (got name.page (field_seen w txn name field)))
 get_stands s new w txn e name field page target knows is seen notes run =
-    subst (λ p. Stands new (with_transaction w txn (got p (field_seen w txn name field)))) is
-    (subst (λ x. Stands new (with_transaction w txn (got page x))) seen (get_here s new w txn e page target (open_in s w txn e knows.ready knows.known.found) notes run))
+    subst (λ p. AreTransactionsOf new (with_transaction w txn (got p (field_seen w txn name field)))) is
+    (subst (λ x. AreTransactionsOf new (with_transaction w txn (got page x))) seen (get_here s new w txn e page target (open_in s w txn e knows.ready knows.known.found) notes run))

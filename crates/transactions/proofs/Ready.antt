@@ -17,8 +17,8 @@ use Rattle.store_model.specs.Steps.{committed, with_new, after_answer, after_rep
 use Rattle.store_model.specs.Lawful.{IsDoubtOf}
 use Rattle.store_model.proofs.Lawfulness.{event_is_lawful}
 use Rattle.transactions.specs.Tables.{entry_of}
-use Rattle.transactions.specs.Standing.{TransactionsParts, IsReady, IsReadyForSome, Stands}
-use Rattle.transactions.specs.Calls.{Answers, StepsWell}
+use Rattle.transactions.specs.Standing.{TransactionsParts, IsReady, IsReadyForSome, AreTransactionsOf}
+use Rattle.transactions.specs.Calls.{AnswersIn, TransactsWell}
 use Rattle.transactions.proofs.Begins.{opened_there}
 use Rattle.transactions.proofs.Refusals.{refused}
 
@@ -99,18 +99,18 @@ no_refusal w call h may = by (first_refusal w call nothing) refl may
     by (Some why) e same = none_first (causes w call nothing) (no_fault w call h) (e ∙ ap (λ (r : Refusal). Some r) (sym same))
 
 -- so one that is refused leaves them standing for the world as it was
-pub stands_refused : (s : TransactionsParts) (w : World) (call : Call) (why : Refusal) → may_fail call ≡ false → Stands s w → first_refusal w call nothing ≡ Some why
-    → Answers s w call (Refused why)
+pub stands_refused : (s : TransactionsParts) (w : World) (call : Call) (why : Refusal) → may_fail call ≡ false → AreTransactionsOf s w → first_refusal w call nothing ≡ Some why
+    → AnswersIn s w call (Refused why)
 stands_refused s w call DiskFault h stands e = absurd (no_refusal w call h (refused w call DiskFault e))
 stands_refused s w call why h stands e = record { allowed = refused w call why e; stands = stands }
 
 -- and so where `?` hands on the refusal
 pub hands_on : {T : Type 0} (reply : Result T Refusal → Reply) (result : Result T Refusal) (s : TransactionsParts) (w : World) (call : Call) (why : Refusal) → reply (Err why) ≡ Refused why
-    → IsErrAnd result (λ (y : Refusal). y ≡ why) → may_fail call ≡ false → Stands s w → first_refusal w call nothing ≡ Some why → Answers s w call (reply result)
+    → IsErrAnd result (λ (y : Refusal). y ≡ why) → may_fail call ≡ false → AreTransactionsOf s w → first_refusal w call nothing ≡ Some why → AnswersIn s w call (reply result)
 hands_on reply result s w call why is handed h stands e =
     let p = err_from_is_err_and result handed in
     let same : reply result ≡ Refused why = ap reply (p.1 ∙ ap (λ (y : Refusal). Err y) p.2) ∙ is in
-    subst (λ (x : Reply). Answers s w call x) (sym same) (stands_refused s w call why h stands e)
+    subst (λ (x : Reply). AnswersIn s w call x) (sym same) (stands_refused s w call why h stands e)
 
 -- ---- what isn't broken stays so
 
@@ -129,7 +129,7 @@ sound_after w call (Refused why) h may = refl
 sound_after w call reply h may = sound_answer w call reply h
 
 -- each answer leaves them ready, but for a call that may fail
-pub ready_after : (old new : TransactionsParts) (w : World) (call : Call) (reply : Reply) → may_fail call ≡ false → IsReady old w → Answers new w call reply
+pub ready_after : (old new : TransactionsParts) (w : World) (call : Call) (reply : Reply) → may_fail call ≡ false → IsReady old w → AnswersIn new w call reply
     → IsReady new (after_reply w call nothing reply)
 ready_after old new w call reply h ready answer = record {
   lawful = event_is_lawful w call nothing reply ready.lawful answer.allowed;
@@ -137,7 +137,7 @@ ready_after old new w call reply h ready answer = record {
   stands = answer.stands;
 }
 
-pub ready_for_some : (old new : TransactionsParts) (call : Call) (reply : Reply) → may_fail call ≡ false → IsReadyForSome old → StepsWell old new call reply → IsReadyForSome new
+pub ready_for_some : (old new : TransactionsParts) (call : Call) (reply : Reply) → may_fail call ≡ false → IsReadyForSome old → TransactsWell old new call reply → IsReadyForSome new
 ready_for_some old new call reply h some steps = (after_reply some.0 call nothing reply, ready_after old new some.0 call reply h some.1 (steps some.0 some.1))
 
 -- ---- a commit
@@ -182,7 +182,7 @@ none_met w txn sound first there =
     by (Some t) e = refl
 
 -- they stand for the world after a commit, whether or not it can have one more
-pub ready_finished : (old new : TransactionsParts) (txn : ℕ) → is_some (entry_of old.table txn) ≡ true → IsReadyForSome old → ((w : World) → IsReady old w → Stands new (committed w txn)) → IsReadyForSome new
+pub ready_finished : (old new : TransactionsParts) (txn : ℕ) → is_some (entry_of old.table txn) ≡ true → IsReadyForSome old → ((w : World) → IsReady old w → AreTransactionsOf new (committed w txn)) → IsReadyForSome new
 ready_finished old new txn is_open some stands =
     let w = early some.0 in
     let ready = early_is_ready old some.0 some.1 in

@@ -29,7 +29,7 @@ use Rattle.page_image.specs.Slots.{fresh_slot, freed}
 use Rattle.page_image.specs.Pages.{PageParts, slot_at, slot_freed}
 use Rattle.page_buffer.specs.Frames.{blank_frame, frame_at, freed_page, freed_frame, with_frame}
 use Rattle.page_buffer.specs.declared.frame.Frame.{Frame}
-use Rattle.transactions.specs.Standing.{TransactionsParts, image_in, wrote, IsFrameOf, AreFramesOf, IsReady, Stands}
+use Rattle.transactions.specs.Standing.{TransactionsParts, image_in, wrote, IsFrameOf, AreFramesOf, IsReady, AreTransactionsOf}
 use Rattle.transactions.proofs.Numbers.{found_in_list, transaction_found}
 use Rattle.transactions.proofs.Viewed.{objects_at-view, place_of}
 use Rattle.transactions.proofs.Shown.{shown_from, same_shown, length-shown, get-shown}
@@ -227,8 +227,8 @@ used_by w frames page slots low h used = λ slot lt on.
 -- all stands for the world after the sweep
 pub sweep_stands : (s new : TransactionsParts) (w : World) (page slots : ℕ) → IsReady s w → page < length s.frames
     → ((slot : ℕ) → has_slot slots slot ≡ true → (slot_at (frame_at s.frames page).before slot).in_use ≡ true)
-    → new ≡ record s { frames = with_frame s.frames page (freed_frame slots (frame_at s.frames page)) } → Stands new (swept w page slots)
-sweep_stands s new w page slots r low used is = subst (λ x. Stands x (swept w page slots)) (sym is) (record {
+    → new ≡ record s { frames = with_frame s.frames page (freed_frame slots (frame_at s.frames page)) } → AreTransactionsOf new (swept w page slots)
+sweep_stands s new w page slots r low used is = subst (λ x. AreTransactionsOf x (swept w page slots)) (sym is) (record {
   fields = r.stands.fields;
   table = record { numbers = r.stands.table.numbers; each = r.stands.table.each };
   locks = record { pages = r.stands.locks.pages; admitted = r.stands.locks.admitted; shared = r.stands.locks.shared; exclusive = r.stands.locks.exclusive };

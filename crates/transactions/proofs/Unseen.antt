@@ -4,11 +4,11 @@ use Rattle.std.specs.Prelude.{reverse, find, unwrap_or}
 use Rattle.store_model.specs.Worlds.{World, Transaction, OpenedCut, Doubt, fresh_transaction}
 use Rattle.store_model.specs.Causes.{has_page}
 use Rattle.transactions.specs.Tables.{entry_of}
-use Rattle.transactions.specs.Standing.{TransactionsParts, Stands, AreAlike, image_in, IsSameToThem, ShowsTheSame}
+use Rattle.transactions.specs.Standing.{TransactionsParts, AreTransactionsOf, AreAlike, image_in, IsSameToThem, ShowsTheSame}
 
 -- the same world but for what they don't see
-stands_with : (s : TransactionsParts) (w : World) (commits last_cut : ℕ) (cut : Option OpenedCut) (broken : Option ℕ) (doubt : Doubt) → Stands s w
-    → Stands s (record w { commits = commits; last_cut = last_cut; cut = cut; broken = broken; doubt = doubt })
+stands_with : (s : TransactionsParts) (w : World) (commits last_cut : ℕ) (cut : Option OpenedCut) (broken : Option ℕ) (doubt : Doubt) → AreTransactionsOf s w
+    → AreTransactionsOf s (record w { commits = commits; last_cut = last_cut; cut = cut; broken = broken; doubt = doubt })
 stands_with s w commits last_cut cut broken doubt st = record {
   fields = st.fields;
   table = record { numbers = st.table.numbers; each = λ txn. st.table.each txn };
@@ -27,7 +27,7 @@ stands_with s w commits last_cut cut broken doubt st = record {
   };
 }
 
-pub stands_same : (s : TransactionsParts) (w v : World) → IsSameToThem w v → Stands s w → Stands s v
+pub stands_same : (s : TransactionsParts) (w v : World) → IsSameToThem w v → AreTransactionsOf s w → AreTransactionsOf s v
 stands_same s w v same st =
     let to : World = record w { commits = v.commits; last_cut = v.last_cut; cut = v.cut; broken = v.broken; doubt = v.doubt } in
     let is : to ≡ v = λ i. record {
@@ -41,7 +41,7 @@ stands_same s w v same st =
       broken = v.broken;
       doubt = v.doubt;
     } in
-    subst (λ (u : World). Stands s u) is (stands_with s w v.commits v.last_cut v.cut v.broken v.doubt st)
+    subst (λ (u : World). AreTransactionsOf s u) is (stands_with s w v.commits v.last_cut v.cut v.broken v.doubt st)
 
 -- a transaction among these
 abbrev among : List Transaction → ℕ → Transaction
@@ -53,7 +53,7 @@ nobody_wrote ts txn page none = ap (λ (us : List Transaction). has_page (among 
 no_truth : (b : Bool) → b ≡ false → IsTrue b → ⊥
 no_truth b is it = absurd cc
 
-pub stands_idle : (s : TransactionsParts) (w v : World) → ShowsTheSame w v → Stands s w → Stands s v
+pub stands_idle : (s : TransactionsParts) (w v : World) → ShowsTheSame w v → AreTransactionsOf s w → AreTransactionsOf s v
 stands_idle s w v same st =
     let both : w.transactions ≡ v.transactions = same.idle ∙ sym same.idle_too in
     record {

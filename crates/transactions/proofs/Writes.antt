@@ -11,13 +11,13 @@ use Rattle.object_graph.specs.Graphs.{has_name}
 use Rattle.store_model.specs.Worlds.{World, Transaction, Write, nothing, link, assign, view, slots_of, fields_of}
 use Rattle.store_model.specs.Images.{shown_in}
 use Rattle.store_model.specs.Steps.{with_page, with_transaction, writes}
-use Rattle.page_image.specs.Slots.{fresh_slot, with_number, with_ref}
+use Rattle.page_image.specs.Slots.{fresh_slot, slot_with_number, slot_with_ref}
 use Rattle.page_image.specs.Pages.{PageParts, slot_at, with_slot}
-use Rattle.page_buffer.specs.Frames.{frame_at, with_frame, written}
+use Rattle.page_buffer.specs.Frames.{frame_at, with_frame, frame_written}
 use Rattle.page_buffer.specs.declared.frame.Frame.{Frame}
 use Rattle.page_locks.specs.Holding.{is_in_way, IsNobody, AddsExclusive}
 use Rattle.transactions.specs.Tables.{OpenParts, knows_target, HaveSameNames, ChangesEntry, NotesPage}
-use Rattle.transactions.specs.Standing.{TransactionsParts, image_in, IsEntry, AreFramesOf, IsReady, Stands}
+use Rattle.transactions.specs.Standing.{TransactionsParts, image_in, IsEntry, AreFramesOf, IsReady, AreTransactionsOf}
 use Rattle.transactions.specs.Checks.{name_causes, field_causes, write_causes, IsKnownTo, MayWrite, TakesPage}
 use Rattle.transactions.proofs.Viewed.{written_name}
 use Rattle.transactions.proofs.Seen.{there_fields}
@@ -87,12 +87,12 @@ set_causes s w txn e name field target page why ready known is known_target name
 
 -- a slot after a write
 abbrev pub slot_written : Write → SlotParts → SlotParts
-slot_written (link name field target) = with_ref field target
-slot_written (assign name value) = with_number value
+slot_written (link name field target) = slot_with_ref field target
+slot_written (assign name value) = slot_with_number value
 
 -- the frames after a write
 abbrev pub frames_written : ℕ → ℕ → Write → List Frame → List Frame
-frames_written page slot write frames = with_frame frames page (written (frame_at frames page) (with_slot (frame_at frames page).current slot (slot_written write)))
+frames_written page slot write frames = with_frame frames page (frame_written (frame_at frames page) (with_slot (frame_at frames page).current slot (slot_written write)))
 
 -- the code's steps
 pub record HasWritten (s new : TransactionsParts) (txn page slot : ℕ) (write : Write) : Type 0 where
@@ -120,13 +120,13 @@ image_written s w txn e (assign name value) o known =
 
 stands_here : (s new : TransactionsParts) (w : World) (txn : ℕ) (e : OpenParts) (write : Write) → IsOpened s w txn e → has_name e.known (written_name write) ≡ true
     → HasWritten s new txn (written_name write).page (written_name write).slot write
-    → Stands new (with_transaction w txn (writes write (written_name write).page))
+    → AreTransactionsOf new (with_transaction w txn (writes write (written_name write).page))
 stands_here s new w txn e write o known run = record {
   fields = o.ready.stands.fields;
   table = table_changes w s.table new.table txn e o.of (NotesPage page) change o.ready.stands.table o.is o.found (λ t. refl) run.noted (λ f h. entry_writes e f o.of write page o.entry h);
   locks = locks_exclude w s.locks new.locks txn page change o.of o.ready.stands.locks o.found (λ t. refl) refl refl run.pages run.locked;
   frames = subst (AreFramesOf (with_transaction w txn change)) (sym run.frames)
-      (frames_change w s.frames txn page (written (frame_at s.frames page) (with_slot (frame_at s.frames page).current slot (slot_written write))) change o.of
+      (frames_change w s.frames txn page (frame_written (frame_at s.frames page) (with_slot (frame_at s.frames page).current slot (slot_written write))) change o.of
       o.ready.stands.frames (known_placed s w txn e (written_name write) o known).0 o.found (λ t. refl) refl
       (λ u ne. nobody_wrote s w true txn page u o.ready run.nobody ne) refl refl
       (ap (λ image. with_slot image slot (slot_written write)) (known_image s w true txn e (written_name write) o known run.nobody) ∙ image_written s w txn e write o known)
@@ -145,7 +145,7 @@ stands_here s new w txn e write o known run = record {
 -- all stands for the world after the page is taken and the write done
 pub write_stands : (s new view : TransactionsParts) (frames : List Frame) (w : World) (txn : ℕ) (e : OpenParts) (page slot : ℕ) (write : Write) → IsReady s w → IsKnownTo s txn (written_name write) e
     → MayWrite s txn e page → page ≡ (written_name write).page → slot ≡ (written_name write).slot → view ≡ new → TakesPage txn page s new → frames ≡ frames_written page slot write view.frames
-    → Stands (record view { frames = frames }) (with_transaction w txn (writes write (written_name write).page))
+    → AreTransactionsOf (record view { frames = frames }) (with_transaction w txn (writes write (written_name write).page))
 write_stands s new view frames w txn e page slot write ready known may page_is slot_is same takes run =
     let takes_view = subst (λ (v : TransactionsParts). TakesPage txn page s v) (sym same) takes in
     stands_here s after w txn e write (open_in s w txn e ready known.found) known.known

@@ -10,16 +10,16 @@ use Rattle.store_model.specs.Replies.{AllowsReply, names_in}
 use Rattle.store_model.specs.Steps.{after_reply}
 use Rattle.page_buffer.specs.Frames.{frame_at}
 use Rattle.page_buffer.specs.declared.frame.Frame.{Frame}
-use Rattle.transactions.specs.Standing.{TransactionsParts, IsReady, Stands}
+use Rattle.transactions.specs.Standing.{TransactionsParts, IsReady, AreTransactionsOf}
 
 -- the reply is allowed, and the transactions stand for the next world
-pub record Answers (new : TransactionsParts) (w : World) (call : Call) (reply : Reply) : Type 0 where
+pub record AnswersIn (new : TransactionsParts) (w : World) (call : Call) (reply : Reply) : Type 0 where
   pub allowed : AllowsReply w call nothing reply
-  pub stands : Stands new (after_reply w call nothing reply)
+  pub stands : AreTransactionsOf new (after_reply w call nothing reply)
 
 -- so it is for each world for which they are ready
-abbrev pub StepsWell : TransactionsParts → TransactionsParts → Call → Reply → Type 0
-StepsWell old new call reply = (w : World) → IsReady old w → Answers new w call reply
+abbrev pub TransactsWell : TransactionsParts → TransactionsParts → Call → Reply → Type 0
+TransactsWell old new call reply = (w : World) → IsReady old w → AnswersIn new w call reply
 
 -- these are pages of the store, and the frame of every other page is as it was
 pub record ChangesFramesOf (pages : List ℕ) (old new : List Frame) : Type 0 where

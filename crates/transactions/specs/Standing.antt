@@ -14,8 +14,8 @@ use Rattle.page_locks.specs.Holding.{LockTable, numbers, shares, excludes}
 use Rattle.transactions.specs.Tables.{OpenParts, Entries, entry_of, HaveSamePages, HaveSameNames}
 
 -- the images of pages, as a world shows them
-abbrev pub images_of : List PageParts → List (List SlotParts)
-images_of pages = map (λ p. p.slots) pages
+abbrev pub page_images : List PageParts → List (List SlotParts)
+page_images pages = map (λ p. p.slots) pages
 
 -- each page has the number of its place
 abbrev pub AreNumbered : List PageParts → Type 0
@@ -28,8 +28,8 @@ pub record TransactionsParts : Type 0 where
   pub frames : List Frame
 
 -- the numbers of a world's open transactions, in the order in which they began
-abbrev pub numbers_of : World → List ℕ
-numbers_of w = reverse (map (λ t. t.number) w.transactions)
+abbrev pub open_numbers : World → List ℕ
+open_numbers w = reverse (map (λ t. t.number) w.transactions)
 
 -- the transaction wrote the page
 abbrev pub wrote : World → ℕ → ℕ → Bool
@@ -48,13 +48,13 @@ AreAlike (Some e) (Some t) = IsEntry e t
 
 -- the table has an entry for each open transaction
 pub record IsTable (w : World) (table : Entries) : Type 0 where
-  pub numbers : keys_of table ≡ numbers_of w
+  pub numbers : keys_of table ≡ open_numbers w
   pub each : (txn : ℕ) → AreAlike (entry_of table txn) (find_transaction w txn)
 
 -- the locks are the pages read, shared, and the pages written, exclusive
 pub record AreLocks (w : World) (locks : LockTable) : Type 0 where
   pub pages : locks.pages ≡ w.pages
-  pub admitted : numbers locks.held ≡ numbers_of w
+  pub admitted : numbers locks.held ≡ open_numbers w
   pub shared : (txn page : ℕ) → shares locks.held txn page ≡ has_page (transaction w txn).pages_read page
   pub exclusive : (txn page : ℕ) → excludes locks.held txn page ≡ wrote w txn page
 
@@ -77,7 +77,7 @@ pub record AreFramesOf (w : World) (frames : List Frame) : Type 0 where
   pub each : (page : ℕ) → page < w.pages → IsFrameOf w page (frame_at frames page)
 
 -- the transactions stand for the world
-pub record Stands (s : TransactionsParts) (w : World) : Type 0 where
+pub record AreTransactionsOf (s : TransactionsParts) (w : World) : Type 0 where
   pub fields : HaveFields (fields_of w) w.graph
   pub table : IsTable w s.table
   pub locks : AreLocks w s.locks
@@ -87,7 +87,7 @@ pub record Stands (s : TransactionsParts) (w : World) : Type 0 where
 pub record IsReady (s : TransactionsParts) (w : World) : Type 0 where
   pub lawful : IsLawful w
   pub sound : w.broken ≡ None
-  pub stands : Stands s w
+  pub stands : AreTransactionsOf s w
 
 abbrev pub IsReadyForSome : TransactionsParts → Type 0
 IsReadyForSome s = (w : World) × IsReady s w

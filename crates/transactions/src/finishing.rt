@@ -8,8 +8,8 @@ ghost use Rattle.store_model.specs.Steps.{committed};
 ghost use Rattle.page_buffer.specs.Frames.{frame_at, settled, reverted};
 ghost use Rattle.page_locks.specs.Holding.{Releases};
 ghost use Rattle.transactions.specs.Tables.{entry_of, pages_in};
-ghost use Rattle.transactions.specs.Standing.{IsReady, IsReadyForSome, Stands};
-ghost use Rattle.transactions.specs.Calls.{StepsWell, ChangesFramesOf};
+ghost use Rattle.transactions.specs.Standing.{IsReady, IsReadyForSome, AreTransactionsOf};
+ghost use Rattle.transactions.specs.Calls.{TransactsWell, ChangesFramesOf};
 
 use crate::transactions::Transactions;
 use object_graph::Refusal;
@@ -42,7 +42,7 @@ impl Transactions {
     /// released.
     pub fn abort(&mut self, txn: u32) -> Result<(), Refusal>
         requires { IsReadyForSome self.old }
-        ensures steps { StepsWell self.old self.new (Abort txn) (done_reply result) }
+        ensures steps { TransactsWell self.old self.new (Abort txn) (done_reply result) }
         ensures unchanged { OnErr result (self.new ≡ self.old) }
         ensures frames { OnOk result (ChangesFramesOf (pages_in (entry_of self.old.table txn)) self.old.frames self.new.frames) }
     {
@@ -58,7 +58,7 @@ impl Transactions {
     pub fn finish(&mut self, txn: u32)
         requires ready { IsReadyForSome self.old }
         requires is_open { is_some (entry_of self.old.table txn) ≡ true }
-        ensures committed { (w : World) → IsReady self.old w → Stands self.new (committed w txn) }
+        ensures committed { (w : World) → IsReady self.old w → AreTransactionsOf self.new (committed w txn) }
         ensures frames { ChangesFramesOf (pages_in (entry_of self.old.table txn)) self.old.frames self.new.frames }
     {
         let Some(entry) = self.table.find(txn) else {

@@ -20,13 +20,13 @@ impl Model for KnownNames {
     ghost use Rattle.std.specs.List.{AllByRecursion};
     ghost use Rattle.indexmap.specs.IndexSet.{spare};
     ghost use Rattle.object_graph.specs.NameParts.{NameParts};
-    ghost use Rattle.page_image.specs.Fields.{name_of};
+    ghost use Rattle.page_image.specs.Fields.{numbered_name};
     ghost use Rattle.object_graph.specs.declared.limits.TheConstants.{MOST_KNOWN};
     ghost use Rattle.transactions.specs.KnownNumbers.{IsOfName};
 
     ghost Value = { List NameParts };
 
-    ghost view = { λ k. map name_of k.numbers.keys };
+    ghost view = { λ k. map numbered_name k.numbers.keys };
 
     ghost invariant = { λ k. AllByRecursion IsOfName k.numbers.keys × (MOST_KNOWN ≤ length k.numbers.keys + spare k.numbers) };
 }

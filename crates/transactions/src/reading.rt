@@ -5,7 +5,7 @@ ghost use Rattle.object_graph.specs.Replies.{num_reply, ref_reply};
 ghost use Rattle.page_image.specs.Pages.{object_at};
 ghost use Rattle.page_buffer.specs.Frames.{frame_at};
 ghost use Rattle.transactions.specs.Standing.{IsReadyForSome};
-ghost use Rattle.transactions.specs.Calls.{StepsWell};
+ghost use Rattle.transactions.specs.Calls.{TransactsWell};
 
 use crate::transactions::Transactions;
 use object_graph::{Name, Object, Refusal, Steps};
@@ -35,7 +35,7 @@ impl Transactions {
         steps: &mut Steps<L>,
     ) -> Result<Option<Name>, Refusal>
         requires { IsReadyForSome self.old }
-        ensures steps { StepsWell self.old self.new (Get txn name field) (ref_reply result) }
+        ensures steps { TransactsWell self.old self.new (Get txn name field) (ref_reply result) }
         ensures unchanged { OnErr result (self.new ≡ self.old) }
         ensures frames { self.new.frames ≡ self.old.frames }
         ensures ticks { steps.new ≤ steps.old + 1 }
@@ -68,7 +68,7 @@ impl Transactions {
         steps: &mut Steps<L>,
     ) -> Result<u64, Refusal>
         requires { IsReadyForSome self.old }
-        ensures steps { StepsWell self.old self.new (Number txn name) (num_reply result) }
+        ensures steps { TransactsWell self.old self.new (Number txn name) (num_reply result) }
         ensures unchanged { OnErr result (self.new ≡ self.old) }
         ensures frames { self.new.frames ≡ self.old.frames }
         ensures ticks { steps.new ≤ steps.old + 1 }

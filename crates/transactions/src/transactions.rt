@@ -10,8 +10,8 @@ ghost use Rattle.store_model.specs.Steps.{swept};
 ghost use Rattle.page_image.specs.Pages.{IsPage, slot_at};
 ghost use Rattle.page_buffer.specs.Frames.{frame_at, with_frame, freed_frame};
 ghost use Rattle.transactions.specs.Tables.{entry_of, pages_in, written_at, IsAscending};
-ghost use Rattle.transactions.specs.Standing.{images_of, AreNumbered, IsReady, IsReadyForSome, Stands};
-ghost use Rattle.transactions.specs.Calls.{AreOutOfReach, StepsWell};
+ghost use Rattle.transactions.specs.Standing.{page_images, AreNumbered, IsReady, IsReadyForSome, AreTransactionsOf};
+ghost use Rattle.transactions.specs.Calls.{AreOutOfReach, TransactsWell};
 
 use crate::table::Table;
 use object_graph::{MOST_OPEN, MOST_PAGES, MOST_WRITTEN, Memory, Refusal, SlotSet, Steps};
@@ -56,9 +56,9 @@ impl Transactions {
     pub fn new(alloc: Global, pages: Vec<Page>) -> Result<Transactions, Memory>
         requires few { length pages.items ≤ MOST_PAGES }
         requires numbered { AreNumbered pages.items }
-        requires root { IsTrue (has_root (images_of pages.items)) }
-        requires whole { IsWhole (images_of pages.items) }
-        ensures ready { IfOk result (λ s. (commits : ℕ) → IsReady s (world_of commits (images_of pages.items))) }
+        requires root { IsTrue (has_root (page_images pages.items)) }
+        requires whole { IsWhole (page_images pages.items) }
+        ensures ready { IfOk result (λ s. (commits : ℕ) → IsReady s (world_of commits (page_images pages.items))) }
     {
         are_pages(&pages);
         let table = Table::new(alloc)?;
@@ -76,7 +76,7 @@ impl Transactions {
     /// Opens a transaction. It knows the root and nothing else.
     pub fn begin(&mut self, txn: u32) -> Result<(), Refusal>
         requires { IsReadyForSome self.old }
-        ensures steps { StepsWell self.old self.new (Begin txn) (done_reply result) }
+        ensures steps { TransactsWell self.old self.new (Begin txn) (done_reply result) }
         ensures unchanged { OnErr result (self.new ≡ self.old) }
         ensures frames { self.new.frames ≡ self.old.frames }
     {
@@ -146,7 +146,7 @@ impl Transactions {
         requires page { page < length self.old.frames }
         requires used { (slot : ℕ) → IsTrue (has_slot slots slot) → (slot_at (frame_at self.old.frames page).before slot).in_use ≡ true }
         requires out { (w : World) × IsReady self.old w × AreOutOfReach w page slots }
-        ensures swept { (w : World) → IsReady self.old w → Stands self.new (swept w page slots) }
+        ensures swept { (w : World) → IsReady self.old w → AreTransactionsOf self.new (swept w page slots) }
         ensures frames { self.new ≡ record self.old { frames = with_frame self.old.frames page (freed_frame slots (frame_at self.old.frames page)) } }
         ensures step { steps.new ≡ steps.old + 1 }
     {

@@ -3,7 +3,7 @@ ghost use Rattle.std.specs.Prelude.{◌≡◌, ◌+◌, ◌≤◌, [], ◌∷◌
 ghost use Rattle.object_graph.specs.declared.calls.Call.TheVariants.{New, Put, Set};
 ghost use Rattle.object_graph.specs.Replies.{done_reply, made_reply};
 ghost use Rattle.transactions.specs.Standing.{IsReadyForSome};
-ghost use Rattle.transactions.specs.Calls.{StepsWell, ChangesFramesOf};
+ghost use Rattle.transactions.specs.Calls.{TransactsWell, ChangesFramesOf};
 
 use crate::transactions::Transactions;
 use object_graph::{Name, Refusal, Steps};
@@ -21,7 +21,7 @@ impl Transactions {
         steps: &mut Steps<L>,
     ) -> Result<(), Refusal>
         requires { IsReadyForSome self.old }
-        ensures steps { StepsWell self.old self.new (Set txn name field target) (done_reply result) }
+        ensures steps { TransactsWell self.old self.new (Set txn name field target) (done_reply result) }
         ensures unchanged { OnErr result (self.new ≡ self.old) }
         ensures frames { OnOk result (ChangesFramesOf (name.page ∷ []) self.old.frames self.new.frames) }
         ensures ticks { steps.new ≤ steps.old + 1 }
@@ -49,7 +49,7 @@ impl Transactions {
         steps: &mut Steps<L>,
     ) -> Result<(), Refusal>
         requires { IsReadyForSome self.old }
-        ensures steps { StepsWell self.old self.new (Put txn name value) (done_reply result) }
+        ensures steps { TransactsWell self.old self.new (Put txn name value) (done_reply result) }
         ensures unchanged { OnErr result (self.new ≡ self.old) }
         ensures frames { OnOk result (ChangesFramesOf (name.page ∷ []) self.old.frames self.new.frames) }
         ensures ticks { steps.new ≤ steps.old + 1 }
@@ -71,7 +71,7 @@ impl Transactions {
         steps: &mut Steps<L>,
     ) -> Result<Name, Refusal>
         requires { IsReadyForSome self.old }
-        ensures steps { StepsWell self.old self.new (New txn page) (made_reply result) }
+        ensures steps { TransactsWell self.old self.new (New txn page) (made_reply result) }
         ensures unchanged { OnErr result (self.new ≡ self.old) }
         ensures frames { OnOk result (ChangesFramesOf (page ∷ []) self.old.frames self.new.frames) }
         ensures ticks { steps.new ≤ steps.old + 1 }

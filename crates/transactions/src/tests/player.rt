@@ -3,7 +3,7 @@ ghost use Rattle.std.specs.Prelude.{◌≡◌, ◌<◌, ◌≤◌, length, nat_e
 ghost use Rattle.store_model.specs.FromImages.{has_root, IsWhole};
 ghost use Rattle.page_image.specs.Slots.{taken};
 ghost use Rattle.page_image.specs.Pages.{empty_page, with_slot};
-ghost use Rattle.transactions.specs.Standing.{images_of, AreNumbered, IsReadyForSome};
+ghost use Rattle.transactions.specs.Standing.{page_images, AreNumbered, IsReadyForSome};
 
 use crate::Transactions;
 use object_graph::{Call, MOST_PAGES, Memory, Name, Refusal, Reply, Steps};
@@ -38,8 +38,8 @@ fn fresh_pages(alloc: Global, count: u32) -> Result<Vec<Page>, Memory>
     requires few { count ≤ MOST_PAGES }
     ensures few { IfOk result (λ pages. length pages.items ≤ MOST_PAGES) }
     ensures numbered { IfOk result (λ pages. AreNumbered pages.items) }
-    ensures root { IfOk result (λ pages. IsTrue (has_root (images_of pages.items))) }
-    ensures whole { IfOk result (λ pages. IsWhole (images_of pages.items)) }
+    ensures root { IfOk result (λ pages. IsTrue (has_root (page_images pages.items))) }
+    ensures whole { IfOk result (λ pages. IsWhole (page_images pages.items)) }
 {
     let mut pages = Vec::with_capacity(alloc, count as usize)?;
     for number in 0..count {

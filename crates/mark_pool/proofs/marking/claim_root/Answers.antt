@@ -3,7 +3,7 @@ use Rattle.mark_pool.specs.declared.place.Place.{Place}
 use Rattle.mark_pool.specs.Edges.{place}
 use Rattle.mark_pool.specs.Marks.{times}
 use Rattle.mark_pool.specs.Seats.{Known, with_claim}
-use Rattle.mark_pool.specs.Walks.{IsWhole}
+use Rattle.mark_pool.specs.Walks.{IsWholeSeat}
 use Rattle.mark_pool.proofs.marking.claim_root.Goals as goal
 
 claimed_root : (claims : List Place) (new : Bool) → (new ≡ false → 0 < times 0 0 claims) → 0 < times 0 0 (if new then place 0 0 ∷ claims else claims)
@@ -16,7 +16,7 @@ returns-then-is_in_use c =
     let is = c.claim.ensures.claimed ∙ ap (λ (s : Known). with_claim s 0 0 c.claim.result) first in
     let own = c.claim.ensures.own (ap (λ (s : Known). s.parts) first) in
     let root = claimed_root c.args.seat.now.claims c.claim.result own in
-    subst (IsWhole c.args.table.now) (sym is) (record {
+    subst (IsWholeSeat c.args.table.now) (sym is) (record {
       own = (refl, refl);
       parts = refl;
       tidy = λ page slot h. absurd (omega (arith, h));

@@ -1,9 +1,9 @@
 use Rattle.std.proofs.Common.{[], ◌∷◌, length, sym, subst, ap, ◌∙◌, arith, length-append}
 use Rattle.std.specs.List.{All}
 use Rattle.std.proofs.lemmas.List.Elements.{All-push, All-drop}
-use Rattle.mark_pool.specs.Seats.{Known, IsOf}
+use Rattle.mark_pool.specs.Seats.{Known, IsSeatOf}
 use Rattle.mark_pool.specs.Walks.{IsListed}
-use Rattle.mark_pool.specs.Jobs.{IsReady}
+use Rattle.mark_pool.specs.Jobs.{IsReadyJob}
 use Rattle.mark_pool.proofs.round.deal.Goals as goal
 
 pub jobs-preserved : goal.jobs-preserved
@@ -11,9 +11,9 @@ jobs-preserved c =
     let before = c.jobs.invariant in
     let kept = c.in_ok-job_for.ensures.kept in
     let items = c.in_ok-push.ensures.items in
-    let P = IsReady c.args.table.now c.args.cut.now in
+    let P = IsReadyJob c.args.table.now c.args.cut.now in
     record {
-      own = subst (IsOf c.args.table.now) (sym kept) before.own;
+      own = subst (IsSeatOf c.args.table.now) (sym kept) before.own;
       same = record {
         claims = ap (λ (s : Known). s.claims) kept ∙ before.same.claims;
         takes = ap (λ (s : Known). s.takes) kept ∙ before.same.takes;

@@ -4,22 +4,22 @@ use Rattle.std.proofs.lemmas.List.Folds.{list_any_none}
 use Rattle.object_graph.specs.NameParts.{NameParts}
 use Rattle.object_graph.specs.Names.{name_eq}
 use Rattle.object_graph.specs.Graphs.{has_object}
-use Rattle.object_graph.specs.Walks.{IsTaken}
+use Rattle.object_graph.specs.Walks.{AreTakenOver}
 use Rattle.object_graph.specs.ObjectParts.{ObjectParts}
 use Rattle.object_graph.proofs.Paths.{name_eq_same}
 use Rattle.object_graph.proofs.Walks.{taken_none, taken_one}
 use Rattle.object_graph.proofs.reach.take.Goals as goal
 
 -- no object has the name
-nothing_there : (name : NameParts) (todo left : List ObjectParts) → All (λ o. name_eq o.name name ≡ false) left → IsTaken (name_eq name) todo left todo left
+nothing_there : (name : NameParts) (todo left : List ObjectParts) → All (λ o. name_eq o.name name ≡ false) left → AreTakenOver (name_eq name) todo left todo left
 nothing_there name todo left none =
     taken_none (name_eq name) todo left (λ n w. subst (λ k. has_object left k ≡ false) (name_eq_same name n w) (list_any_none (λ o. name_eq o.name name) left none))
 
 taken_there : (name : NameParts) (todo left todo' left' : List ObjectParts) (i : ℕ) (o : ObjectParts) → i < length left → o ≡ slice_index_or left i o
-    → ((d : ObjectParts) → (slice_index_or left i d).name ≡ name) → todo' ≡ todo ++ o ∷ [] → left' ≡ remove left i → IsTaken (name_eq name) todo left todo' left'
+    → ((d : ObjectParts) → (slice_index_or left i d).name ≡ name) → todo' ≡ todo ++ o ∷ [] → left' ≡ remove left i → AreTakenOver (name_eq name) todo left todo' left'
 taken_there name todo left todo' left' i o lt is named grown fewer =
-    subst (λ xs. IsTaken (name_eq name) todo left xs left') (sym grown)
-    (subst (λ xs. IsTaken (name_eq name) todo left (todo ++ o ∷ []) xs) (sym fewer)
+    subst (λ xs. AreTakenOver (name_eq name) todo left xs left') (sym grown)
+    (subst (λ xs. AreTakenOver (name_eq name) todo left (todo ++ o ∷ []) xs) (sym fewer)
     (taken_one name todo left i o lt is (ap (λ (x : ObjectParts). x.name) is ∙ named o)))
 
 pub returns-in_ok-push-in-Some : goal.returns-in_ok-push-in-Some

@@ -2,17 +2,17 @@ use Rattle.std.proofs.Common.{◌≡◌, ◌-◌, ℕ, List, [], ◌∷◌, ◌+
 use Rattle.std.specs.List.{list_any}
 use Rattle.object_graph.specs.NameParts.{NameParts}
 use Rattle.object_graph.specs.Graphs.{has_name, is_to, HasEachNameOnce}
-use Rattle.object_graph.specs.Walks.{IsTaken}
+use Rattle.object_graph.specs.Walks.{AreTakenOver}
 use Rattle.object_graph.specs.ObjectParts.{ObjectParts}
 use Rattle.object_graph.proofs.Walks.{IsWalk, walk_begun, walk_step, walk_done, fewer}
 use Rattle.object_graph.proofs.reach.walk.Goals as goal
 
 begun_at : (graph : List ObjectParts) (starts : List NameParts) (done none all todo left : List ObjectParts) → HasEachNameOnce graph
-    → done ≡ [] → none ≡ [] → all ≡ graph → IsTaken (has_name starts) none all todo left → IsWalk graph starts done todo left
+    → done ≡ [] → none ≡ [] → all ≡ graph → AreTakenOver (has_name starts) none all todo left → IsWalk graph starts done todo left
 begun_at graph starts done none all todo left once d n a p =
     subst (λ xs. IsWalk graph starts xs todo left) (sym d)
     (walk_begun graph starts todo left once
-    (subst (λ xs. IsTaken (has_name starts) [] xs todo left) a (subst (λ xs. IsTaken (has_name starts) xs all todo left) n p)))
+    (subst (λ xs. AreTakenOver (has_name starts) [] xs todo left) a (subst (λ xs. AreTakenOver (has_name starts) xs all todo left) n p)))
 
 pub walk-init : goal.walk-init
 walk-init c =
@@ -26,12 +26,12 @@ walk-smaller c =
     c.in-Some.ensures.items c.in_ok-take_refs.ensures.same
 
 step_at : (graph : List ObjectParts) (starts : List NameParts) (done : List ObjectParts) (o : ObjectParts) (refs : List (Option NameParts)) (whole todo left done' todo' left' : List ObjectParts) → HasEachNameOnce graph
-    → refs ≡ o.refs → whole ≡ todo ++ o ∷ [] → done' ≡ done ++ o ∷ [] → IsWalk graph starts done whole left → IsTaken (λ n. list_any (is_to n) refs) todo left todo' left'
+    → refs ≡ o.refs → whole ≡ todo ++ o ∷ [] → done' ≡ done ++ o ∷ [] → IsWalk graph starts done whole left → AreTakenOver (λ n. list_any (is_to n) refs) todo left todo' left'
     → IsWalk graph starts done' todo' left'
 step_at graph starts done o refs whole todo left done' todo' left' once same popped pushed w t =
     subst (λ xs. IsWalk graph starts xs todo' left') (sym pushed)
     (walk_step graph starts done o todo left todo' left' once (subst (λ xs. IsWalk graph starts done xs left) popped w)
-    (subst (λ rs. IsTaken (λ n. list_any (is_to n) rs) todo left todo' left') same t))
+    (subst (λ rs. AreTakenOver (λ n. list_any (is_to n) rs) todo left todo' left') same t))
 
 pub walk-preserved : goal.walk-preserved
 walk-preserved c =

@@ -2,7 +2,7 @@ use Rattle.std.proofs.Common.{◌≡◌, ⊎_elim, ℕ, List, ◌+◌, take, sym
 use Rattle.std.proofs.lemmas.Result.{err_from_is_err_and}
 use Rattle.page_image.specs.Fields.{page_at}
 use Rattle.redo_journal.specs.Results.{from_place}
-use Rattle.redo_journal.specs.Judging.{IsFaultIn}
+use Rattle.redo_journal.specs.Judging.{IsAreaFaultIn}
 use Rattle.redo_journal.proofs.ImageReads.{number_in, image_out, image_fault, image_other, image_is}
 use Rattle.redo_journal.proofs.fields.image_of.Goals as goal
 use Rattle.redo_journal.specs.declared.sizes.TheConstants.{PAGE_SIZE}
@@ -15,7 +15,7 @@ returns-then-number-low-clause-value c =
 pub returns-in_err-page-clause-value : goal.returns-in_err-page-clause-value
 returns-in_err-page-clause-value c =
     let is : c.u32_of-number.result ≡ number_in c.args.bytes.now = c.u32_of-number.ensures in
-    let bad = subst (λ (b : List ℕ). IsFaultIn (from_place (c.args.place + 4) (page_at (take PAGE_SIZE b))) c.in_err-page.field-0.0) c.split_at.ensures.back c.in_err-page.ensures in
+    let bad = subst (λ (b : List ℕ). IsAreaFaultIn (from_place (c.args.place + 4) (page_at (take PAGE_SIZE b))) c.in_err-page.field-0.0) c.split_at.ensures.back c.in_err-page.ensures in
     let p = err_from_is_err_and c.from_residual.result c.from_residual.ensures.1 in
     rw (p.1, p.2) (image_fault c.args.pages c.args.place c.args.low c.args.bytes.now c.in_err-page.field-0.0 (omega (arith, is, c.if-number-low.false)) (omega (arith, is, c.if-number-pages.false)) bad)
 

@@ -5,7 +5,7 @@ use Rattle.disk_trait.proofs.DiskSteps.{keeps_on}
 use Rattle.page_image.specs.Pages.{PageParts}
 use Rattle.redo_journal.specs.Homes.{home_start}
 use Rattle.redo_journal.specs.Places.{has_place}
-use Rattle.redo_journal.specs.Replays.{is_among}
+use Rattle.redo_journal.specs.Replays.{has_image}
 use Rattle.redo_journal.specs.declared.places.ImagePlace.{ImagePlace}
 use Rattle.redo_journal.proofs.HomeMoments.{unchanged}
 use Rattle.redo_journal.proofs.HomeRuns.{ImagesLeft, images_start, images_next, images_end, images_change, copied_home}
@@ -17,7 +17,7 @@ pub loop-i-init : goal.loop-i-init
 loop-i-init g c = record {
   images = λ file images told stand. (
     images_start c.args.places.now images file (g.D.Disk.content c.args.disk.now) told stand,
-    unchanged g.D.Disk g.met.D.Disk.only_now (is_among images) c.args.disk.now,
+    unchanged g.D.Disk g.met.D.Disk.only_now (has_image images) c.args.disk.now,
   );
   keeps = record { size = refl; told = refl; later = omega arith };
   calm = refl;

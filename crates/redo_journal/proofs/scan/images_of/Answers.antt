@@ -4,7 +4,7 @@ use Rattle.std.proofs.lemmas.List.{append-nil, length_push}
 use Rattle.std.proofs.lemmas.List.Elements.{All-push}
 use Rattle.std.proofs.lemmas.Result.{err_from_is_err_and}
 use Rattle.page_image.specs.Pages.{PageParts}
-use Rattle.redo_journal.specs.Judging.{IsFaultIn}
+use Rattle.redo_journal.specs.Judging.{IsAreaFaultIn}
 use Rattle.redo_journal.specs.Walk.{with_front}
 use Rattle.redo_journal.specs.Record.{images_at}
 use Rattle.redo_journal.proofs.GrammarLaws.{images_length}
@@ -71,7 +71,7 @@ returns-in_err-image c =
     let i = l.invariant in
     let fault = c.in_err-image.field-0.0 in
     let p = err_from_is_err_and c.from_residual.result c.from_residual.ensures.1 in
-    let here = subst (λ (read : Result (List PageParts) ℕ). IsFaultIn read fault) i.value
+    let here = subst (λ (read : Result (List PageParts) ℕ). IsAreaFaultIn read fault) i.value
     (images_fault i.front c.args.pages l.at l.low l.left l.rest.now fault c.loop-left-test.true c.in_err-image.ensures.value) in
     rw (p.1, p.2) (record { read = here; places = tt; reserved = tt })
 

@@ -1,7 +1,7 @@
 use Rattle.std.proofs.Common.{◌≡◌, ◌+◌, ℕ, List, drop, sym, ◌∙◌, ap, subst, Ok}
 use Rattle.std.proofs.lemmas.Bool.{eqb-true}
 use Rattle.std.proofs.lemmas.Result.{err_from_is_err_and}
-use Rattle.redo_journal.specs.Judging.{IsFaultIn}
+use Rattle.redo_journal.specs.Judging.{IsAreaFaultIn}
 use Rattle.redo_journal.specs.Record.{images_at}
 use Rattle.redo_journal.proofs.GrammarLaws.{record_read, record_none, kind_fault, count_fault, pages_fault}
 use Rattle.redo_journal.proofs.scan.record_of.Goals as goal
@@ -22,7 +22,7 @@ returns-in_err-count-clause-read c =
 pub returns-in_err-images_of-clause-read : goal.returns-in_err-images_of-clause-read
 returns-in_err-images_of-clause-read c =
     let fault = c.in_err-images_of.field-0.0 in
-    let here = subst (λ (b : List ℕ). IsFaultIn (images_at c.args.pages (c.args.place + 5) 0 c.in_ok-count.count b) fault) c.split_at.ensures.back c.in_err-images_of.ensures.read in
+    let here = subst (λ (b : List ℕ). IsAreaFaultIn (images_at c.args.pages (c.args.place + 5) 0 c.in_ok-count.count b) fault) c.split_at.ensures.back c.in_err-images_of.ensures.read in
     let p = err_from_is_err_and c.from_residual-in_err-images_of.result c.from_residual-in_err-images_of.ensures.1 in
     rw (p.1, p.2) (pages_fault c.args.pages c.args.place c.args.done c.args.bytes.now c.in_ok-kind.kind c.in_ok-count.count fault c.in_ok-kind.ensures.value c.in_ok-count.ensures.value here)
 

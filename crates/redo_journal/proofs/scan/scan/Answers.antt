@@ -5,10 +5,10 @@ use Rattle.std.proofs.lemmas.List.Elements.{All-nil}
 use Rattle.std.proofs.lemmas.List.Sums.{sum_by_push}
 use Rattle.std.proofs.lemmas.Result.{err_from_is_err_and}
 use Rattle.page_image.specs.Pages.{PageParts}
-use Rattle.redo_journal.specs.Judging.{IsFaultIn}
+use Rattle.redo_journal.specs.Judging.{IsAreaFaultIn}
 use Rattle.redo_journal.specs.Area.{first_gate}
 use Rattle.redo_journal.specs.Places.{IsPlace, places_of, places_in}
-use Rattle.redo_journal.specs.Walk.{walk, taken}
+use Rattle.redo_journal.specs.Walk.{walk, bytes_taken}
 use Rattle.redo_journal.specs.Record.{RecordParts, record_at, grammar, commits_of}
 use Rattle.redo_journal.specs.Replays.{AreLatest, IsLaidOver, images_in}
 use Rattle.redo_journal.specs.declared.places.ImagePlace.{ImagePlace}
@@ -75,7 +75,7 @@ loop-end-preserved c =
     ∙ ap (λ (x : List ℕ). record_at c.args.pages (c.args.start + l.end + 1) (base + l.commits) x) (sym c.split_at.ensures.back) ∙ read.1 in
     let size_is : FRAME_SIZE + IMAGE_SIZE * head.count ≡ g.size r + 1 = omega (arith, grammar-size c.args.pages r, read.2) in
     let weight_is : c.counted-commits.result ≡ g.weight r = c.counted-commits.ensures ∙ sym (grammar-weight c.args.pages r) in
-    let place_is : c.args.start + l.end + 1 + 5 ≡ c.args.start + first_gate + taken g i.front + FRAME_SIZE = omega (arith, i.end_is) in
+    let place_is : c.args.start + l.end + 1 + 5 ≡ c.args.start + first_gate + bytes_taken g i.front + FRAME_SIZE = omega (arith, i.end_is) in
     let room : l.end + (FRAME_SIZE + IMAGE_SIZE * head.count) < AREA_SIZE = omega (arith, c.in_ok-head.ensures.room, ap length c.split_at.ensures.back, length-drop (l.end + 1) c.args.bytes.now, c.requires.whole) in
     record {
       front = i.front ++ r ∷ [];
@@ -107,8 +107,8 @@ returns-in_err-head-clause-read c =
     let at_is : g.at (c.args.start + l.end + 1) (base + l.commits) (drop (l.end + 1) c.args.bytes.now) ≡ record_at c.args.pages (c.args.start + l.end + 1) (base + l.commits) c.split_at.result.1.now =
     grammar-at c.args.pages (c.args.start + l.end + 1) (base + l.commits) (drop (l.end + 1) c.args.bytes.now)
     ∙ ap (λ (x : List ℕ). record_at c.args.pages (c.args.start + l.end + 1) (base + l.commits) x) (sym c.split_at.ensures.back) in
-    let here = subst (λ (read : Result RecordParts ℕ). IsFaultIn read fault) (sym at_is) c.in_err-head.ensures.read in
-    let walked = subst (λ (read : Result (List RecordParts) ℕ). IsFaultIn read fault) i.value
+    let here = subst (λ (read : Result RecordParts ℕ). IsAreaFaultIn read fault) (sym at_is) c.in_err-head.ensures.read in
+    let walked = subst (λ (read : Result (List RecordParts) ℕ). IsAreaFaultIn read fault) i.value
     (scan_fault g c.args.start base l.end l.commits c.args.bytes.now i.front fault (omega (arith, i.within, c.requires.whole)) c.loop-end-test.true here) in
     let p = err_from_is_err_and c.from_residual.result c.from_residual.ensures.1 in
     rw (p.1, p.2) (area_fault g c.args.start base c.args.bytes.now fault c.base_of-base.ensures c.if-base-gt-MOST_COUNTED.false walked)

@@ -2,7 +2,7 @@ use Rattle.std.proofs.Common.{◌≡◌, ◌+◌, ◌-◌, ◌*◌, ◌<◌, ◌
 use Rattle.std.specs.Prelude.{vec_capacity}
 use Rattle.std.specs.List.{All}
 use Rattle.redo_journal.specs.Area.{first_gate}
-use Rattle.redo_journal.specs.Walk.{walk, with_front, taken}
+use Rattle.redo_journal.specs.Walk.{walk, with_front, bytes_taken}
 use Rattle.redo_journal.specs.Places.{IsPlace, places_in}
 use Rattle.redo_journal.specs.Record.{RecordParts, commits_in, grammar}
 use Rattle.redo_journal.specs.Replays.{AreLatest, IsLaidOver, images_in}
@@ -14,7 +14,7 @@ abbrev pub invariant-loop-end : goal.invariant-loop-end
 invariant-loop-end l = record {
   front : List RecordParts;
   value : with_front front (walk (grammar l.pages) (l.start + l.end) (l.base + l.commits) 0 (drop l.end l.bytes)) ≡ walk (grammar l.pages) l.start l.base first_gate l.bytes;
-  end_is : l.end ≡ first_gate + taken (grammar l.pages) front;
+  end_is : l.end ≡ first_gate + bytes_taken (grammar l.pages) front;
   commits_are : l.commits ≡ commits_in front;
   within : l.end < AREA_SIZE;
   few : l.commits ≤ l.end;

@@ -3,7 +3,7 @@ use Rattle.std.specs.Prelude.{Err, IfSome, IsTrue, not}
 use Rattle.redo_journal.specs.Homes.{store_size}
 use Rattle.image_model.specs.Super.{is_page_count}
 use Rattle.image_model.specs.Files.{fresh_pages}
-use Rattle.image_model.specs.Stands.{opened}
+use Rattle.image_model.specs.Stands.{opened_world}
 use Rattle.store_model.specs.Worlds.{fresh_world}
 use Rattle.store_run.specs.declared.status.Status.{Status}
 use Rattle.store_run.specs.Generated.{Generated, GeneratedBy}
@@ -24,7 +24,7 @@ pub returns-in-Ok-start-clause-generated : goal.returns-in-Ok-start-clause-gener
 returns-in-Ok-start-clause-generated g c =
     rounds_generated g.D.Disk c.make_rounds.result.0 c.args.from c.args.count c.args.disk c.make.new.disk c.in-Ok-start.core c.make_rounds.result.1
     (g.K.Sink.held c.args.sink.now) (g.K.Sink.held c.make_rounds.new.sink) _ c.make.ensures.keeps c.in_default.ensures.calm
-    (subst (λ (n : ℕ). IfSome (g.D.Disk.content c.make.new.disk) (λ (file : List ℕ). opened file ≡ fresh_world n)) c.from.ensures c.in_default.ensures.fresh)
+    (subst (λ (n : ℕ). IfSome (g.D.Disk.content c.make.new.disk) (λ (file : List ℕ). opened_world file ≡ fresh_world n)) c.from.ensures c.in_default.ensures.fresh)
     c.in-Ok-start.ensures.world c.in-Ok-start.ensures.just_opened c.in-Ok-start.ensures.content c.in-Ok-start.ensures.keeps c.make_rounds.ensures.made
 
 pub returns-clause-generated : goal.returns-clause-generated

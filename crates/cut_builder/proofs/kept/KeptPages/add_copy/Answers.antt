@@ -1,6 +1,6 @@
 use Rattle.std.proofs.Common.{◌≡◌, ◌∙◌, List, set, sym, subst, arith}
 use Rattle.cut_model.specs.CutPages.{CutPage, with_copy}
-use Rattle.cut_builder.specs.CutParts.{page_of, copied_of}
+use Rattle.cut_builder.specs.CutParts.{page_in_cut, copied_of}
 use Rattle.cut_builder.specs.Kept.{Kept, cut_pages_of, AreKeptImages}
 use Rattle.cut_builder.proofs.Keeps.{low, kept_in, kept_copy, copied_pages, copied_images}
 use Rattle.cut_builder.proofs.kept.KeptPages.add_copy.Goals as goal
@@ -35,5 +35,5 @@ returns c =
     let k = kept_in c.self.inside in
     let within = low k c.args.self.now copy.page c.self.view_is c.requires.page in
     (λ i. cut_pages_of (record { current = c.set.ensures i; before = c.put_before.ensures i; after = c.keep_later.ensures i; born = k.born }))
-    ∙ subst (λ (ps : List CutPage). cut_pages_of (kept_copy k copy) ≡ set ps copy.page (with_copy (copied_of copy) (page_of ps copy.page))) c.self.view_is
+    ∙ subst (λ (ps : List CutPage). cut_pages_of (kept_copy k copy) ≡ set ps copy.page (with_copy (copied_of copy) (page_in_cut ps copy.page))) c.self.view_is
     (copied_pages k copy c.self.invariant within)

@@ -1,7 +1,7 @@
 use Rattle.std.proofs.Common.{◌∙◌, ℕ, sym, ap, arith}
 use Rattle.std.specs.Prelude.{option_map}
 use Rattle.cut_model.specs.CutPages.{CutPage}
-use Rattle.cut_builder.specs.CutParts.{page_of, image_of, as_page}
+use Rattle.cut_builder.specs.CutParts.{page_in_cut, image_of, as_page}
 use Rattle.cut_builder.specs.Kept.{kept_at}
 use Rattle.cut_builder.proofs.Keeps.{low, kept_in, read_cut, current_image, before_image, after_image}
 use Rattle.cut_builder.proofs.kept.KeptPages.image.Goals as goal
@@ -28,7 +28,7 @@ returns-in-0 c =
     let is = read_cut k c.args.self.now page c.self.view_is c.requires in
     c.image_in.ensures
     ∙ (current_image (kept_at k.current page) (kept_at k.before page) page (c.self.invariant.current.each page)
-    ∙ sym (ap (λ (w : ℕ). option_map (as_page page) (image_of (page_of c.args.self.now page) w)) c.in-0.is ∙ ap (λ (p : CutPage). option_map (as_page page) (image_of p 0)) is))
+    ∙ sym (ap (λ (w : ℕ). option_map (as_page page) (image_of (page_in_cut c.args.self.now page) w)) c.in-0.is ∙ ap (λ (p : CutPage). option_map (as_page page) (image_of p 0)) is))
 
 pub returns-in-1 : goal.returns-in-1
 returns-in-1 c =
@@ -37,7 +37,7 @@ returns-in-1 c =
     let is = read_cut k c.args.self.now page c.self.view_is c.requires in
     c.image_in-in-1.ensures
     ∙ (before_image (kept_at k.current page) (kept_at k.before page) page (c.self.invariant.beside page) (c.self.invariant.before.each page)
-    ∙ sym (ap (λ (w : ℕ). option_map (as_page page) (image_of (page_of c.args.self.now page) w)) c.in-1.is ∙ ap (λ (p : CutPage). option_map (as_page page) (image_of p 1)) is))
+    ∙ sym (ap (λ (w : ℕ). option_map (as_page page) (image_of (page_in_cut c.args.self.now page) w)) c.in-1.is ∙ ap (λ (p : CutPage). option_map (as_page page) (image_of p 1)) is))
 
 pub returns-in-2 : goal.returns-in-2
 returns-in-2 c =
@@ -46,4 +46,4 @@ returns-in-2 c =
     let is = read_cut k c.args.self.now page c.self.view_is c.requires in
     c.image_in-in-2.ensures
     ∙ (after_image (kept_at k.after page) page (c.self.invariant.after.each page)
-    ∙ sym (ap (λ (w : ℕ). option_map (as_page page) (image_of (page_of c.args.self.now page) w)) c.in-2.is ∙ ap (λ (p : CutPage). option_map (as_page page) (image_of p 2)) is))
+    ∙ sym (ap (λ (w : ℕ). option_map (as_page page) (image_of (page_in_cut c.args.self.now page) w)) c.in-2.is ∙ ap (λ (p : CutPage). option_map (as_page page) (image_of p 2)) is))

@@ -4,7 +4,7 @@ use Rattle.object_graph.specs.declared.calls.Refusal.TheVariants.{Uncopied}
 use Rattle.object_graph.specs.declared.calls.Reply.TheVariants.{Refused}
 use Rattle.store_model.specs.Worlds.{nothing}
 use Rattle.cut_model.specs.Standing.{CutBeside}
-use Rattle.cut_builder.specs.CutParts.{ClosedParts, starts_of}
+use Rattle.cut_builder.specs.CutParts.{ClosedParts, cut_starts}
 use Rattle.cut_core.specs.Given.{CutAnswers}
 use Rattle.cut_core.specs.declared.held.Stage.TheVariants.{Closed}
 use Rattle.cut_core.proofs.Closings.{closed_holds, closed_sound, uncopied_stays, back_again}
@@ -13,7 +13,7 @@ use Rattle.cut_core.proofs.held.Held.close.Goals as goal
 pub returns-in-Ok-clause-well : goal.returns-in-Ok-clause-well
 returns-in-Ok-clause-well c = λ w h calm.
     closed_holds c.args.self.now c.in-Some.held c.in-Copying.cut w (sym c.take.ensures.value ∙ c.in-Some.is) c.in-Copying.is h calm c.in-Ok.closed (Closed c.of.result) c.in-Ok.ensures.closed refl
-    (ap (λ (x : ClosedParts). let b : CutBeside = record { pages = x.pages; starts = starts_of x } in b) c.of.ensures)
+    (ap (λ (x : ClosedParts). let b : CutBeside = record { pages = x.pages; starts = cut_starts x } in b) c.of.ensures)
     (λ n e. ap (λ (x : ClosedParts). x.number) c.of.ensures ∙ e) c.in-Ok.ensures.copied
 
 pub returns-in-Ok-clause-sound : goal.returns-in-Ok-clause-sound

@@ -4,7 +4,7 @@ use Rattle.store_model.specs.Steps.{next}
 use Rattle.cut_core.specs.Given.{HasGiven, close_event, closed_note, closed_reply}
 use Rattle.cut_core.specs.Holding.{beside_of}
 use Rattle.cut_core.specs.Seen.{Seen}
-use Rattle.cut_core.specs.Whole.{Keeps}
+use Rattle.cut_core.specs.Whole.{StandsWithCut}
 use Rattle.cut_core.proofs.Closings.{closed_rest, keeps_beside, keeps_seen}
 use Rattle.cut_core.proofs.machine.Core.close_cut.Goals as goal
 
@@ -12,7 +12,7 @@ pub invariant_of-self-2 : goal.invariant_of-self-2
 invariant_of-self-2 g c =
     let w = c.self.inside.told.value in
     let h = c.self.invariant in
-    subst (Keeps g.D.Disk c.self.inside.store c.close-answer.new.self) (sym c.by.ensures)
+    subst (StandsWithCut g.D.Disk c.self.inside.store c.close-answer.new.self) (sym c.by.ensures)
     (keeps_beside g.D.Disk c.self.inside.store c.close-answer.new.self w Close (closed_note c.close-answer.result) (closed_reply c.close-answer.result) c.in_default.is h.stands
     (closed_rest w c.close-answer.result c.close-answer.ensures.other) (c.close-answer.ensures.well w h.holds (sym h.stands.broken ∙ c.in_default.is)))
 

@@ -2,7 +2,7 @@ use Rattle.std.proofs.Common.{◌≡◌, ◌≢◌, ◌++◌, ◌∷◌, [], ℕ
 use Rattle.object_graph.specs.declared.limits.TheConstants.{MOST_OPEN}
 use Rattle.page_locks.specs.Sets.{is_among}
 use Rattle.page_locks.specs.Holding.{LockTable, HaveSameLocks, is_admitted}
-use Rattle.page_locks.specs.Places.{number_at, seat_at, locks_of, numbers_in, IsTable}
+use Rattle.page_locks.specs.Places.{transaction_at, seat_at, locks_of, numbers_in, IsLockTable}
 use Rattle.page_locks.specs.declared.admitted.Admitted.{Admitted}
 use Rattle.page_locks.specs.declared.seats.Seat.{Seat}
 use Rattle.page_locks.proofs.Modes.{admitted-locks_of}
@@ -14,15 +14,15 @@ use Rattle.page_locks.proofs.locks.Locks.admit.Goals as goal
 pub returns-in_default-clause-full : goal.returns-in_default-clause-full
 returns-in_default-clause-full c =
     let held = c.self.inside.admitted.items in
-    let taken = subst (λ (ss : List Seat). (q : ℕ) → q < MOST_OPEN → number_at ss q ≢ None) c.deref.ensures.value c.in_default.ensures.none in
+    let taken = subst (λ (ss : List Seat). (q : ℕ) → q < MOST_OPEN → transaction_at ss q ≢ None) c.deref.ensures.value c.in_default.ensures.none in
     sym (ap (λ (t : LockTable). length t.held) c.self.view_is) ∙ (length-locks_of c.self.inside.holders.items held ∙ full held c.self.inside.seats.items c.self.invariant.1.seated taken)
 
 new_one : (c : goal.After-push_reserved) → is_among (numbers_in c.self.inside.admitted.items) c.args.txn ≡ false
 new_one c =
     sym (admitted-locks_of c.self.inside.holders.items c.self.inside.admitted.items c.args.txn) ∙ (ap (λ (t : LockTable). is_admitted t.held c.args.txn) c.self.view_is ∙ c.requires)
 
-free : (c : goal.After-push_reserved) → number_at c.self.inside.seats.items c.in-Some.place ≡ None
-free c = subst (λ (ss : List Seat). number_at ss c.in-Some.place ≡ None) c.deref.ensures.value c.in-Some.ensures.some
+free : (c : goal.After-push_reserved) → transaction_at c.self.inside.seats.items c.in-Some.place ≡ None
+free c = subst (λ (ss : List Seat). transaction_at ss c.in-Some.place ≡ None) c.deref.ensures.value c.in-Some.ensures.some
 
 pub invariant_of-self : goal.invariant_of-self
 invariant_of-self c =
@@ -37,8 +37,8 @@ invariant_of-self c =
     let cap = c.self.invariant.0 in
     let same = c.push_reserved.ensures.capacity in (
       omega (arith, cap, same),
-      subst (λ (hs : List Admitted). IsTable c.self.inside.pages holders hs (set seats q record { txn = Some c.args.txn; pages = c.index_mut.result.now.pages })) (sym c.push_reserved.ensures.items)
-          (subst (λ (s : Seat). IsTable c.self.inside.pages holders (held ++ record { txn = c.args.txn; place = q } ∷ []) (set seats q record { txn = Some c.args.txn; pages = s.pages })) (sym seat)
+      subst (λ (hs : List Admitted). IsLockTable c.self.inside.pages holders hs (set seats q record { txn = Some c.args.txn; pages = c.index_mut.result.now.pages })) (sym c.push_reserved.ensures.items)
+          (subst (λ (s : Seat). IsLockTable c.self.inside.pages holders (held ++ record { txn = c.args.txn; place = q } ∷ []) (set seats q record { txn = Some c.args.txn; pages = s.pages })) (sym seat)
           (table_admits held seats c.args.txn q table.seated low (free c) (new_one c) c.self.inside.pages holders table.covered table.apart)),
     )
 

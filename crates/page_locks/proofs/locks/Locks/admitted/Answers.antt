@@ -1,14 +1,14 @@
 use Rattle.std.proofs.Common.{◌≡◌, ◌≢◌, ℕ, Option, Some, None, is_some, List, IfSome, IfNone, ap, sym, subst, ◌∙◌}
 use Rattle.page_locks.specs.Sets.{is_among}
 use Rattle.page_locks.specs.Holding.{LockTable, is_admitted}
-use Rattle.page_locks.specs.Places.{number_at, numbers_in, AreSeated}
+use Rattle.page_locks.specs.Places.{transaction_at, numbers_in, AreSeated}
 use Rattle.page_locks.specs.declared.admitted.Admitted.{Admitted}
 use Rattle.page_locks.specs.declared.seats.Seat.{Seat}
 use Rattle.page_locks.proofs.Modes.{admitted-locks_of}
 use Rattle.page_locks.proofs.Seated.{unseated}
 use Rattle.page_locks.proofs.locks.Locks.admitted.Goals as goal
 
-found : (held : List Admitted) (seats : List Seat) (txn : ℕ) (o : Option ℕ) → AreSeated held seats → IfSome o (λ q. number_at seats q ≡ Some txn) → IfNone o ((q : ℕ) → number_at seats q ≢ Some txn)
+found : (held : List Admitted) (seats : List Seat) (txn : ℕ) (o : Option ℕ) → AreSeated held seats → IfSome o (λ q. transaction_at seats q ≡ Some txn) → IfNone o ((q : ℕ) → transaction_at seats q ≢ Some txn)
     → is_some o ≡ is_among (numbers_in held) txn
 found held seats txn None s some none = sym (unseated held seats txn s none)
 found held seats txn (Some q) s some none = sym (s.admitted q txn some)

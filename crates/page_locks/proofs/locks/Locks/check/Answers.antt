@@ -2,7 +2,7 @@ use Rattle.std.proofs.Common.{◌≡◌, true, false, Some, None, List, ap, sym,
 use Rattle.page_locks.specs.Sets.{is_among}
 use Rattle.page_locks.specs.Words.{to_write}
 use Rattle.page_locks.specs.Holding.{LockTable, is_admitted, is_in_way, IsNobody, IsLeast}
-use Rattle.page_locks.specs.Places.{number_at, numbers_in, AreSeated, IsLeastInWay}
+use Rattle.page_locks.specs.Places.{transaction_at, numbers_in, AreSeated, IsLeastInWay}
 use Rattle.page_locks.specs.declared.holders.Holders.{Holders}
 use Rattle.page_locks.specs.declared.seats.Seat.{Seat}
 use Rattle.page_locks.proofs.Modes.{admitted-locks_of}
@@ -24,7 +24,7 @@ returns-in-None-clause-free c =
     let held = c.self.inside.admitted.items in
     let holders = c.self.inside.holders.items in
     let seats = c.self.inside.seats.items in
-    let own : number_at seats c.in-Some.place ≡ Some c.args.txn = subst (λ (ss : List Seat). number_at ss c.in-Some.place ≡ Some c.args.txn) c.deref.ensures.value c.in-Some.ensures.some in
+    let own : transaction_at seats c.in-Some.place ≡ Some c.args.txn = subst (λ (ss : List Seat). transaction_at ss c.in-Some.place ≡ Some c.args.txn) c.deref.ensures.value c.in-Some.ensures.some in
     let way : IsLeastInWay holders seats c.in-Some.place c.args.page c.args.mode None =
     subst (λ (hs : List Holders). IsLeastInWay hs seats c.in-Some.place c.args.page c.args.mode None) c.deref-3.ensures.value
     (subst (λ (ss : List Seat). IsLeastInWay c.deref-3.result.now ss c.in-Some.place c.args.page c.args.mode None) c.deref-4.ensures.value c.in-None.ensures) in
@@ -37,7 +37,7 @@ returns-in-Some-in_way-clause-busy c =
     let holders = c.self.inside.holders.items in
     let seats = c.self.inside.seats.items in
     let least = c.in-Some-in_way.holder in
-    let own : number_at seats c.in-Some.place ≡ Some c.args.txn = subst (λ (ss : List Seat). number_at ss c.in-Some.place ≡ Some c.args.txn) c.deref.ensures.value c.in-Some.ensures.some in
+    let own : transaction_at seats c.in-Some.place ≡ Some c.args.txn = subst (λ (ss : List Seat). transaction_at ss c.in-Some.place ≡ Some c.args.txn) c.deref.ensures.value c.in-Some.ensures.some in
     let way : IsLeastInWay holders seats c.in-Some.place c.args.page c.args.mode (Some least) =
     subst (λ (hs : List Holders). IsLeastInWay hs seats c.in-Some.place c.args.page c.args.mode (Some least)) c.deref-3.ensures.value
     (subst (λ (ss : List Seat). IsLeastInWay c.deref-3.result.now ss c.in-Some.place c.args.page c.args.mode (Some least)) c.deref-4.ensures.value c.in-Some-in_way.ensures) in

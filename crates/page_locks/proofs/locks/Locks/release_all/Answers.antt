@@ -4,7 +4,7 @@ use Rattle.object_graph.specs.declared.limits.TheConstants.{MOST_OPEN}
 use Rattle.page_locks.specs.Sets.{in_set, is_among}
 use Rattle.page_locks.specs.Words.{is_held}
 use Rattle.page_locks.specs.Holding.{LockTable, Releases}
-use Rattle.page_locks.specs.Places.{number_at, seat_at, may_hold, locks_of, numbers_in, AreSeated, IsTable}
+use Rattle.page_locks.specs.Places.{transaction_at, seat_at, may_hold, locks_of, numbers_in, AreSeated, IsLockTable}
 use Rattle.page_locks.specs.declared.admitted.Admitted.{Admitted}
 use Rattle.page_locks.specs.declared.holders.Holders.{Holders}
 use Rattle.page_locks.specs.declared.holders.Mode.{Mode}
@@ -20,8 +20,8 @@ returns-in_default-clause-released c =
     unseated held c.deref.result.now c.args.txn (subst (AreSeated held) (sym c.deref.ensures.value) c.self.invariant.1.seated) c.in_default.ensures.none in
     subst (λ (t : LockTable). Releases t.held t.held c.args.txn) c.self.view_is (nothing_released c.self.inside.holders.items held c.args.txn none)
 
-own : (c : goal.After-drop_admitted) → number_at c.self.inside.seats.items c.in-Some.place ≡ Some c.args.txn
-own c = subst (λ (ss : List Seat). number_at ss c.in-Some.place ≡ Some c.args.txn) c.deref.ensures.value c.in-Some.ensures.some
+own : (c : goal.After-drop_admitted) → transaction_at c.self.inside.seats.items c.in-Some.place ≡ Some c.args.txn
+own c = subst (λ (ss : List Seat). transaction_at ss c.in-Some.place ≡ Some c.args.txn) c.deref.ensures.value c.in-Some.ensures.some
 
 within : (c : goal.After-drop_admitted) → c.in-Some.place < length c.self.inside.seats.items
 within c =
@@ -58,8 +58,8 @@ invariant_of-self c =
     let cap = c.self.invariant.0 in
     let same = c.drop_admitted.ensures.capacity in (
       omega (arith, cap, same),
-      subst (λ (hs : List Holders). IsTable pages hs c.drop_admitted.new.admitted.items (set seats q c.leave.new.self)) (written c)
-          (subst (λ (kept : List Admitted). IsTable pages c.vacate.new.holders kept (set seats q c.leave.new.self)) (sym c.drop_admitted.ensures.kept)
+      subst (λ (hs : List Holders). IsLockTable pages hs c.drop_admitted.new.admitted.items (set seats q c.leave.new.self)) (written c)
+          (subst (λ (kept : List Admitted). IsLockTable pages c.vacate.new.holders kept (set seats q c.leave.new.self)) (sym c.drop_admitted.ensures.kept)
           (table_releases pages holders c.vacate.new.holders held seats c.args.txn q c.leave.new.self c.self.invariant.1 c.in-Some.ensures.within (own c)
           c.leave.ensures.free c.leave.ensures.none (as_wide c) (as_long c) (vacated c))),
     )

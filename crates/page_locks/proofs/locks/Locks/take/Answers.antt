@@ -2,7 +2,7 @@ use Rattle.std.proofs.Common.{◌≡◌, ℕ, ◌<◌, ◌&&◌, ◌||◌, ◌==
 use Rattle.page_locks.specs.Sets.{has_bit, in_set, is_among}
 use Rattle.page_locks.specs.Words.{word_of, holders_at, to_write, is_mode}
 use Rattle.page_locks.specs.Holding.{LockTable, is_admitted, is_in_way, IsNobody, IsLeast}
-use Rattle.page_locks.specs.Places.{number_at, seat_at, locks_of, numbers_in, Adds, AreSeated, IsLeastInWay}
+use Rattle.page_locks.specs.Places.{transaction_at, seat_at, locks_of, numbers_in, AddsLock, AreSeated, IsLeastInWay}
 use Rattle.page_locks.specs.declared.holders.Holders.{Holders}
 use Rattle.page_locks.specs.declared.seats.Seat.{Seat}
 use Rattle.page_locks.specs.declared.holders.Mode.{Mode}
@@ -27,15 +27,15 @@ returns-in-Some-in_way-clause-busy c =
     let holders = c.self.inside.holders.items in
     let seats = c.self.inside.seats.items in
     let least = c.in-Some-in_way.holder in
-    let own : number_at seats c.in-Some.place ≡ Some c.args.txn = subst (λ (ss : List Seat). number_at ss c.in-Some.place ≡ Some c.args.txn) c.deref.ensures.value c.in-Some.ensures.some in
+    let own : transaction_at seats c.in-Some.place ≡ Some c.args.txn = subst (λ (ss : List Seat). transaction_at ss c.in-Some.place ≡ Some c.args.txn) c.deref.ensures.value c.in-Some.ensures.some in
     let way : IsLeastInWay holders seats c.in-Some.place c.args.page c.args.mode (Some least) =
     subst (λ (hs : List Holders). IsLeastInWay hs seats c.in-Some.place c.args.page c.args.mode (Some least)) c.deref-3.ensures.value
     (subst (λ (ss : List Seat). IsLeastInWay c.deref-3.result.now ss c.in-Some.place c.args.page c.args.mode (Some least)) c.deref-4.ensures.value c.in-Some-in_way.ensures) in
     subst (λ (t : LockTable). IsLeast (is_in_way (to_write c.args.mode) t.held c.args.txn c.args.page) least) c.self.view_is
     (least_in_way held seats holders c.args.mode c.args.txn c.args.page c.in-Some.place c.self.invariant.1.seated own least way)
 
-own : (c : goal.After-self-2-1) → number_at c.self.inside.seats.items c.in-Some.place ≡ Some c.args.txn
-own c = subst (λ (ss : List Seat). number_at ss c.in-Some.place ≡ Some c.args.txn) c.deref.ensures.value c.in-Some.ensures.some
+own : (c : goal.After-self-2-1) → transaction_at c.self.inside.seats.items c.in-Some.place ≡ Some c.args.txn
+own c = subst (λ (ss : List Seat). transaction_at ss c.in-Some.place ≡ Some c.args.txn) c.deref.ensures.value c.in-Some.ensures.some
 
 free : (c : goal.After-self-2-1) → IsNobody (is_in_way (to_write c.args.mode) (locks_of c.self.inside.holders.items c.self.inside.admitted.items) c.args.txn c.args.page)
 free c =
@@ -83,6 +83,6 @@ returns-clause-taken c =
     let held = c.self.inside.admitted.items in
     let holders = c.self.inside.holders.items in
     let new = set holders c.args.page c.add.new.self in
-    subst (λ (t : LockTable). Adds c.args.mode t.held (locks_of new held) c.args.txn c.args.page) c.self.view_is
+    subst (λ (t : LockTable). AddsLock c.args.mode t.held (locks_of new held) c.args.txn c.args.page) c.self.view_is
     (adds c.args.mode held c.self.inside.seats.items holders new c.args.page c.in-Some.place c.args.txn c.self.invariant.1.seated (own c)
     (held_more holders c.args.page c.in-Some.place c.args.mode c.add.new.self (within c) (added c)))

@@ -3,7 +3,7 @@ use Rattle.std.specs.Bool.{IsTrue}
 use Rattle.object_graph.specs.declared.limits.TheConstants.{MOST_PAGES}
 use Rattle.store_model.specs.FromImages.{has_root, IsWhole}
 use Rattle.page_image.specs.Pages.{PageParts}
-use Rattle.transactions.specs.Standing.{images_of, AreNumbered}
+use Rattle.transactions.specs.Standing.{page_images, AreNumbered}
 use Rattle.transactions.proofs.FreshPages.{fresh_pages, one_more, are_few, are_numbered, have_root, are_whole}
 use Rattle.transactions.proofs.tests.player.fresh_pages.Goals as goal
 
@@ -27,9 +27,9 @@ returns-clause-numbered c = subst AreNumbered (sym c.loop-number.invariant) (are
 pub returns-clause-root : goal.returns-clause-root
 returns-clause-root c =
     let all : c.loop-number.number ≡ c.args.count = omega (arith, c.loop-number-test.false, c.loop-number.auto.number-end) in
-    subst (λ (pages : List PageParts). IsTrue (has_root (images_of pages))) (sym (c.loop-number.invariant ∙ ap fresh_pages all)) (have_root c.args.count c.requires.some)
+    subst (λ (pages : List PageParts). IsTrue (has_root (page_images pages))) (sym (c.loop-number.invariant ∙ ap fresh_pages all)) (have_root c.args.count c.requires.some)
 
 pub returns-clause-whole : goal.returns-clause-whole
 returns-clause-whole c =
     let all : c.loop-number.number ≡ c.args.count = omega (arith, c.loop-number-test.false, c.loop-number.auto.number-end) in
-    subst (λ (pages : List PageParts). IsWhole (images_of pages)) (sym (c.loop-number.invariant ∙ ap fresh_pages all)) (are_whole c.args.count c.requires.some)
+    subst (λ (pages : List PageParts). IsWhole (page_images pages)) (sym (c.loop-number.invariant ∙ ap fresh_pages all)) (are_whole c.args.count c.requires.some)

@@ -2,7 +2,7 @@ use Rattle.std.proofs.Common.{◌≡◌, None, false, nat_le, length, refl, sym,
 use Rattle.std.proofs.lemmas.Bool.{lt-leb}
 use Rattle.object_graph.specs.declared.limits.TheConstants.{MOST_OPEN}
 use Rattle.transactions.specs.Tables.{Entries, entry_of}
-use Rattle.transactions.specs.Standing.{IsReady, Stands}
+use Rattle.transactions.specs.Standing.{IsReady, AreTransactionsOf}
 use Rattle.transactions.proofs.Begins.{begun, stands_begun, not_admitted, none_met, no_entry}
 use Rattle.transactions.proofs.Opened.{not_opened}
 use Rattle.transactions.specs.contracts.transactions.Transactions.{the_view}
@@ -23,5 +23,5 @@ returns-clause-steps c w before =
     let stands = stands_begun (the_view c.self.inside) w c.args.txn c.admit.new.self ready.stands none closed c.in-Ok.ensures.admitted c.in-Ok.ensures.locks c.in-Ok.ensures.pages in
     record {
       allowed = (none_met (the_view c.self.inside) w c.args.txn ready closed few, refl);
-      stands = subst (λ (table : Entries). Stands (record { table = table; locks = c.admit.new.self; frames = c.self.inside.buffer }) (begun w c.args.txn)) (sym c.in_default.ensures.added) stands;
+      stands = subst (λ (table : Entries). AreTransactionsOf (record { table = table; locks = c.admit.new.self; frames = c.self.inside.buffer }) (begun w c.args.txn)) (sym c.in_default.ensures.added) stands;
     }

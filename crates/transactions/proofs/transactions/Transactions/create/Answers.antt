@@ -6,7 +6,7 @@ use Rattle.page_buffer.specs.declared.frame.Frame.{Frame}
 use Rattle.store_model.specs.Causes.{no_page}
 use Rattle.transactions.specs.Checks.{open_causes, write_causes, TakesPage}
 use Rattle.transactions.specs.Tables.{NotesPage, NotesTarget}
-use Rattle.transactions.specs.Standing.{TransactionsParts, Stands}
+use Rattle.transactions.specs.Standing.{TransactionsParts, AreTransactionsOf}
 use Rattle.transactions.proofs.Creates.{making_causes, new_causes, may_write_in, slot_causes, no_slot, creates, answers_made, stands_made}
 use Rattle.transactions.proofs.Entries.{changes_twice}
 use Rattle.transactions.proofs.Opened.{page_below}
@@ -30,7 +30,7 @@ returns-in_default-clause-steps g c = λ w r.
     let low = page_below c.args.self.now _ w c.args.page c.self.view_is r (subst (λ n. c.args.page < n) c.count.ensures.value c.if-page-count.false) in
     let m = may_write_in c.args.self.now _ w c.args.txn _ c.args.page c.self.view_is r c.in_ok-entry.ensures.found low c.in_ok-check_write.ensures.may in
     stands_refused _ w (New c.args.txn c.args.page) (PageFull c.args.page) refl
-    (subst (λ (fs : List Frame). Stands (record { table = c.self.inside.table; locks = c.self.inside.locks; frames = fs }) w) (sym c.in_default.ensures.unchanged) m.ready.stands)
+    (subst (λ (fs : List Frame). AreTransactionsOf (record { table = c.self.inside.table; locks = c.self.inside.locks; frames = fs }) w) (sym c.in_default.ensures.unchanged) m.ready.stands)
     (slot_causes _ w c.args.txn _ c.args.page _ m (c.in_ok-entry.ensures.causes w r) (c.in_ok-check_write.ensures.causes w r) (sym c.if-knows_most.ensures)
     (no_slot _ w c.args.txn _ c.args.page m c.in_default.ensures.full))
 

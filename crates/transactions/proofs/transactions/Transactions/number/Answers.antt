@@ -7,7 +7,7 @@ use Rattle.object_graph.specs.Replies.{num_reply}
 use Rattle.store_model.specs.Causes.{busy_to_read}
 use Rattle.page_locks.specs.Holding.{LockTable}
 use Rattle.transactions.specs.Checks.{name_causes}
-use Rattle.transactions.specs.Standing.{Stands}
+use Rattle.transactions.specs.Standing.{AreTransactionsOf}
 use Rattle.transactions.proofs.Ready.{stands_refused, hands_on}
 use Rattle.transactions.proofs.Refusals.{causes_before, may_read, is_busy_to_read}
 use Rattle.transactions.proofs.Readings.{knows_in, is_read, read_number, number_causes, number_stands}
@@ -22,7 +22,7 @@ pub returns-in-Err-clause-steps : goal.returns-in-Err-clause-steps
 returns-in-Err-clause-steps g c = λ w r.
     let k = knows_in c.args.self.now _ w c.args.txn c.args.name _ c.self.view_is r c.in_ok-entry_knowing.ensures.found in
     stands_refused _ w (Number c.args.txn c.args.name) (Busy c.in-Err.field-0.holder) refl
-    (subst (λ (l : LockTable). Stands (record { table = c.self.inside.table; locks = l; frames = c.self.inside.buffer }) w) (sym c.in-Err.ensures.unchanged) k.ready.stands)
+    (subst (λ (l : LockTable). AreTransactionsOf (record { table = c.self.inside.table; locks = l; frames = c.self.inside.buffer }) w) (sym c.in-Err.ensures.unchanged) k.ready.stands)
     (number_causes w c.args.txn c.args.name c.page-page.result _ c.page-page.ensures.value (c.in_ok-entry_knowing.ensures.causes w r)
     (is_busy_to_read _ w c.args.txn c.page-page.result c.in-Err.field-0.holder [] k.ready c.in-Err.ensures.busy))
 
