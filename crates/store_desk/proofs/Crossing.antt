@@ -3,7 +3,7 @@
 use denote.RattleType.{RattleType}
 use denote.Param.Send.{IsSend, IsSync, struct_send, struct_sync, recorded_send, recorded_sync, view_send, view_sync, sendable}
 use denote.Struct.Declared.{shape}
-use Rattle.std.proofs.Crossing.{Vec-send}
+use Rattle.std.proofs.Crossing.{Box-send, Vec-send}
 use Rattle.std.specs.contracts.snapshot.Snapshot as snapshot
 use Rattle.told.proofs.value.Told.TheSendSync as kept
 use Rattle.object_graph.proofs.calls.Entry.TheSendSync as entry
@@ -63,7 +63,7 @@ module _ (D : RattleType) (disks : DiskOf D.Denot) (s : IsSend D) where
   kept_by = ghosts D disks no_dict
 
   pub state_send : IsSend (state.the_row D disks)
-  state_send = view_send _ _ _ _ _ (recorded_send _ _ _ (state_inside.the_type D disks).to_one (struct_send (shape (state_inside.the_type D disks)) (core_send, (Vec-send _ event_send, (start_send, tt)))))
+  state_send = view_send _ _ _ _ _ (recorded_send _ _ _ (state_inside.the_type D disks).to_one (struct_send (shape (state_inside.the_type D disks)) (Box-send _ core_send, (Vec-send _ event_send, (start_send, tt)))))
 
   pub desk_sync : IsSync (desk.the_row D disks)
   desk_sync = view_sync _ _ _ _ _ (recorded_sync _ _ _ (desk_inside.the_type D disks).to_one

@@ -18,10 +18,11 @@ use std::sync::ledger::Ledger;
 use turn_lock::Kept;
 
 /// The core, and the chronicle of its calls since it was handed in. Contracts see the core as it was
-/// handed in and as it stands, the chronicle, and for how many further entries there is room.
+/// handed in and as it stands, the chronicle, and for how many further entries there is room. The
+/// core lies in a box, so that a move of the state copies a few words.
 #[derive(Drop)]
 pub struct DeskState<D: Disk> {
-    core: Core<D>,
+    core: Box<Core<D>>,
     chronicle: Vec<Event>,
     start: Snapshot<Core<D>>,
 }
@@ -32,9 +33,9 @@ impl<D: Disk> Model for DeskState<D> {
 
     ghost Value = { DeskParts D };
 
-    ghost view = { λ s. record { start = s.start.value; core = s.core; chronicle = s.chronicle.items; spare = vec_capacity s.chronicle - vec_len s.chronicle } };
+    ghost view = { λ s. record { start = s.start.value; core = s.core.value; chronicle = s.chronicle.items; spare = vec_capacity s.chronicle - vec_len s.chronicle } };
 
-    ghost invariant = { λ s. IsKept D.Disk s.start.value s.core s.chronicle.items };
+    ghost invariant = { λ s. IsKept D.Disk s.start.value s.core.value s.chronicle.items };
 }
 
 impl<D: Disk> Kept for DeskState<D> {
@@ -59,11 +60,14 @@ impl<D: Disk> DeskState<D> {
     {
         core.stands();
         let start = Snapshot::of(&core);
-        Ok(DeskState {
-            core,
-            chronicle: Vec::new(alloc),
-            start,
-        })
+        match Box::new(alloc, core) {
+            Ok(core) => Ok(DeskState {
+                core,
+                chronicle: Vec::new(alloc),
+                start,
+            }),
+            Err(failed) => Err((failed.value, Memory)),
+        }
     }
 
     /// Makes room for so many further entries.
@@ -182,6 +186,6 @@ impl<D: Disk> DeskState<D> {
             chronicle,
             start: _,
         } = self;
-        (core, chronicle)
+        (Box::into_inner(core), chronicle)
     }
 }

@@ -5,5 +5,6 @@ use Rattle.store_desk.proofs.state.DeskState.new.Goals as goal
 
 pub invariant_of-result : goal.invariant_of-result
 invariant_of-result g c =
-    subst (IsKept g.D.Disk c.of-start.result.value c.args.core) (sym c.new.ensures.items)
-    (subst (λ start. IsKept g.D.Disk start c.args.core []) (sym c.of-start.ensures) (kept_from g.D.Disk c.args.core g.met.D.Disk.only_now c.stands.ensures.now))
+    subst (IsKept g.D.Disk c.of-start.result.value c.in-Ok.core.value) (sym c.new-in-Ok.ensures.items)
+    (subst (λ core. IsKept g.D.Disk c.of-start.result.value core []) (sym c.in-Ok.ensures.ok)
+    (subst (λ start. IsKept g.D.Disk start c.args.core []) (sym c.of-start.ensures) (kept_from g.D.Disk c.args.core g.met.D.Disk.only_now c.stands.ensures.now)))
