@@ -1,27 +1,27 @@
 -- What one event of the core does.
 use Rattle.std.proofs.Common.{◌≡◌, ◌≢◌, refl, sym, ap, ◌∙◌, subst, ℕ, inl, inr, ⊎_elim, List, [], ◌∷◌, Option, Some, None, arith}
-use Rattle.std.specs.Prelude.{IfSome, IsTrue, is_some, unwrap_or, Result, Ok, Err}
+use Rattle.std.specs.Prelude.{IfSome, IfOk, IsTrue, is_some, unwrap_or, Result, Ok, Err}
 use Rattle.object_graph.specs.NameParts.{NameParts}
 use Rattle.object_graph.specs.declared.calls.Call.{Call}
-use Rattle.object_graph.specs.declared.calls.Call.TheVariants.{Mark, Reopen}
+use Rattle.object_graph.specs.declared.calls.Call.TheVariants.{Close, Mark, Reopen}
 use Rattle.object_graph.specs.declared.calls.Refusal.{Refusal}
 use Rattle.object_graph.specs.declared.calls.Refusal.TheVariants.{DiskFault}
 use Rattle.object_graph.specs.declared.calls.Reply.{Reply}
-use Rattle.object_graph.specs.declared.calls.Reply.TheVariants.{Refused, Reopened}
+use Rattle.object_graph.specs.declared.calls.Reply.TheVariants.{Done, Refused, Reopened}
 use Rattle.disk_trait.specs.declared.disk.Disk.{Ghosts as DiskOf}
 use Rattle.disk_trait.specs.Causes.{Rose}
 use Rattle.disk_trait.specs.DiskFacts.{LeavesOnly, KeepsDisk}
 use Rattle.store_model.specs.Worlds as model
 use Rattle.store_model.specs.Worlds.{World, nothing, faults, images, marks, found}
 use Rattle.store_model.specs.Faults.{FaultsAscend, counts_noted}
-use Rattle.store_model.specs.Replies.{Allows}
+use Rattle.store_model.specs.Replies.{Allows, has_note}
 use Rattle.store_model.specs.Steps.{next}
 use Rattle.store_model.proofs.FaultCounts.{none_ascends}
 use Rattle.image_model.specs.Stands.{StandsForWorld}
 use Rattle.cut_model.specs.CutPages.{CutPage}
 use Rattle.cut_builder.specs.CutParts.{ClosedParts, MarkedParts}
 use Rattle.cut_core.specs.Calls.{event_of, note_of}
-use Rattle.cut_core.specs.Given.{HasGiven, mark_event, marked_reply}
+use Rattle.cut_core.specs.Given.{HasGiven, IsCutOf, close_event, closed_note, closed_reply, mark_event, marked_reply}
 use Rattle.cut_core.specs.Reopening.{Happens, IsNoteOf, IsOpenedAnew, IsOfReopening}
 use Rattle.cut_core.specs.Seen.{Seen, StandsForEither}
 use Rattle.store_machine.proofs.Counts.{ascend_once, breaks, broken_not_none}
@@ -142,6 +142,36 @@ module _ {D : Type 0} (disks : DiskOf D) (old new : Seen D) where
       never : (r : Result (Unit {0}) (MarkedParts × Refusal)) → Allows old.world (mark_event workers (Some number) (marked_reply r)) → marked_reply r ≢ Refused DiskFault
       never (Ok done) may = λ is. cc
       never (Err back) may = refused_other back.1 (mark_never_fails old.world workers (Some number) back.1 may)
+
+  -- ---- the closing
+
+  pub closing_done : (lane : ℕ) (answer : Result ClosedParts Refusal) (note : Note) (e : Event) → ((d : D) (file : List ℕ) → disks.left_since d (disks.moment d) file → disks.may_leave d file)
+      → e ≡ event lane Close (closed_reply answer) note → note_in note ≡ closed_note answer → ((cut : ClosedParts) → Keeps note cut → answer ≡ Ok cut)
+      → Allows old.world (close_event answer) → new.world ≡ next old.world (close_event answer) → new.disk ≡ old.disk → NowStands → KeepsGiven
+      → IfOk answer (λ cut. IsCutOf old.world cut) → IfOk answer (λ cut. HasGiven new.world new.beside cut.number cut.pages) → Happened disks old new e
+  closing_done lane (Ok closed) note e only_now is note_is keeps allowed world same now given sound gives =
+      let kept : (cut : ClosedParts) → Keeps note cut → closed ≡ cut = λ cut k. of_ok (keeps cut k) in
+      subst (Happened disks old new) (sym is)
+      (happened_still (event lane Close Done note) only_now
+      (subst (λ n. Allows old.world (happening lane Close Done n)) (sym note_is) allowed)
+      (world ∙ ap (λ n. next old.world (happening lane Close Done n)) (sym note_is)) same now
+      (λ cut k. subst (λ (x : ClosedParts). IsCutOf old.world x) (kept cut k) sound) given
+      (λ cut k. subst (λ (x : ClosedParts). HasGiven new.world new.beside x.number x.pages) (kept cut k) gives)
+      (ap (λ n. counts_noted (happening lane Close Done n ∷ [])) note_is) (λ f. cc))
+    where
+      of_ok : {a b : ClosedParts} → (let r : Result ClosedParts Refusal = Ok a in r) ≡ Ok b → a ≡ b
+      of_ok f = cc
+  closing_done lane (Err why) note e only_now is note_is keeps allowed world same now given sound gives =
+      subst (Happened disks old new) (sym is)
+      (happened_still (event lane Close (Refused why) note) only_now
+      (subst (λ n. Allows old.world (happening lane Close (Refused why) n)) (sym note_is) allowed)
+      (world ∙ ap (λ n. next old.world (happening lane Close (Refused why) n)) (sym note_is)) same now
+      (λ cut k. absurd (not_ok (keeps cut k))) given (λ cut k. absurd (not_ok (keeps cut k)))
+      (ap (λ n. counts_noted (happening lane Close (Refused why) n ∷ [])) note_is)
+      (λ f. let never : IsTrue (has_note Close (Refused DiskFault) nothing) = subst (λ r. IsTrue (has_note Close r nothing)) f allowed.0 in absurd cc))
+    where
+      not_ok : {cut : ClosedParts} → (let r : Result ClosedParts Refusal = Err why in r) ≡ Ok cut → ⊥
+      not_ok f = cc
 
   -- ---- the reopening
 
