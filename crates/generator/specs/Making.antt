@@ -94,7 +94,8 @@ module _ {D : Type 0} (disks : DiskOf D) where
   -- ---- a transaction
 
   pub record HasBegun (old new : Seen D) (field : ℕ) (target : Option NameParts) : Type 0 where
-    pub made : MadeEntries old new (caller_entry (Begin 1) Done ∷ caller_entry (Get 1 root_name field) (Ref target) ∷ [])
+    pub made : MadeEntries old new
+        (caller_entry (Begin 1) Done ∷ caller_entry (Get 1 root_name field) (Ref target) ∷ [])
     pub alone : IsAlone (learnt target (root_name ∷ [])) 1 new.world
     pub uncounted : IsUncounted old.world new.world
 

@@ -47,7 +47,8 @@ kept_in name x (Some old) = if keep_drawn x == 1 then caller_entry (Set 1 name 0
 abbrev pub writes_of : ℕ → ℕ → Option NameParts → Option NameParts → List Entry
 writes_of x i old None = caller_entry (Set 1 root_name (field_drawn x) None) Done ∷ []
 writes_of x i old (Some name) =
-    caller_entry (Put 1 name i) Done ∷ (kept_in name x old ++ caller_entry (Set 1 root_name (field_drawn x) (Some name)) Done ∷ [])
+    caller_entry (Put 1 name i) Done
+    ∷ (kept_in name x old ++ caller_entry (Set 1 root_name (field_drawn x) (Some name)) Done ∷ [])
 
 -- the transaction of round i, for which x was drawn, where `old` stood in the root's field and `made` was made
 abbrev pub transaction_of : ℕ → ℕ → Option NameParts → Option NameParts → List Entry

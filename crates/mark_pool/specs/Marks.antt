@@ -116,7 +116,8 @@ saw_scanned st m n m' = (page : ℕ) → st.word ≡ 3 * page + 2
 
 -- no place stands twice in the claims or in the takes
 abbrev pub counted_once : Step (Unit {0}) → Sat → ℕ → Sat → Type 0
-counted_once st m n m' = (m' ≡ m) × ((page slot : ℕ) → (times page slot m.0.claims ≤ 1) × (times page slot m.0.takes ≤ 1))
+counted_once st m n m' = (m' ≡ m)
+    × ((page slot : ℕ) → (times page slot m.0.claims ≤ 1) × (times page slot m.0.takes ≤ 1))
 
 -- a view that gave one part away, and the view that got it
 abbrev pub halved : View → View

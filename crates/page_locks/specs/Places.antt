@@ -74,7 +74,8 @@ pub record AreCovered (pages : ℕ) (holders : List Holders) (seats : List Seat)
   pub empty : (place page : ℕ) → transaction_at seats place ≡ None → may_hold seats place page ≡ false
   pub room : (place : ℕ) → place < MOST_OPEN → HasRoom pages (seat_at seats place).pages
 
-pub record IsLockTable (pages : ℕ) (holders : List Holders) (admitted : List Admitted) (seats : List Seat) : Type 0 where
+pub record IsLockTable (pages : ℕ) (holders : List Holders) (admitted : List Admitted)
+    (seats : List Seat) : Type 0 where
   pub seated : AreSeated admitted seats
   pub covered : AreCovered pages holders seats
   pub apart : KeepsApart (locks_of holders admitted)

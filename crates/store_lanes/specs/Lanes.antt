@@ -85,7 +85,8 @@ module _ {D : Type 0} (disks : DiskOf D) (first : Seen D) where
     pub future : List LaneLine
     pub split : said ≡ past ++ future
     pub ahead : SayInLanes left future
-    pub follows : ReopeningsKnown seat → FollowsLane (lines_of_lane first.world.pages lane past) (own_part first.world lane seat)
+    pub follows : ReopeningsKnown seat
+        → FollowsLane (lines_of_lane first.world.pages lane past) (own_part first.world lane seat)
 
   -- a lane on its way
   pub record LaneGoes (all left : List (List ℕ)) (lane : ℕ) (seat : AtDesk D) : Type 0 where

@@ -52,7 +52,8 @@ Follows (calls ∷ lines) events = (rest : List Event) × Makes calls events res
 
 -- marks are none, or those of the cut that is there
 abbrev pub HasPresentMarks : World → Call → Note → Type 0
-HasPresentMarks w (Mark workers) note = IfSome (marks_number note) (λ number. IsSomeAnd w.cut (λ cut. cut.number ≡ number))
+HasPresentMarks w (Mark workers) note =
+    IfSome (marks_number note) (λ number. IsSomeAnd w.cut (λ cut. cut.number ≡ number))
 HasPresentMarks w _ note = Unit {0}
 
 -- each mark of the history gives such marks
