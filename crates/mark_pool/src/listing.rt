@@ -9,7 +9,7 @@ ghost use Rattle.mark_pool.specs.Walks.{AreClaims, AreClosedOn, IsClosedOn, IsLi
 
 use crate::place::Place;
 use crate::table::{MarkSeat, MarkTable};
-use crate::words::{lowest, open_of, slots_of, without_lowest};
+use crate::words::{lowest, open_of, without_lowest};
 use cut_builder::ClosedCut;
 use object_graph::{MOST_SLOTS, Memory, SlotSet};
 use std::alloc::Global;
@@ -137,7 +137,7 @@ pub(crate) fn read_marks(
     let mut marks = Vec::new(alloc);
     'pages: for page in 0..cut.pages() {
         let word = seat.marks(table, page);
-        marks.push(slots_of(word))?;
+        marks.push(SlotSet::of_bits(word))?;
     }
     Ok(marks)
 }

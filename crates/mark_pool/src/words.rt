@@ -1,9 +1,8 @@
 //! Bits of a word.
 ghost use Rattle.std.specs.Int.{bit_at};
 ghost use Rattle.std.specs.Prelude.{◌≡◌, true, ◌==◌, ℕ, ◌+◌, ◌*◌, ◌^◌, ◌<◌};
-ghost use Rattle.object_graph.specs.Slots.{has_slot};
 
-use object_graph::{MOST_SLOTS, SlotSet};
+use object_graph::MOST_SLOTS;
 
 /// The bit of a slot.
 #[inline(always)]
@@ -56,18 +55,4 @@ pub(crate) fn without_lowest(word: u64) -> u64
     ensures { (slot : ℕ) → bit_at result slot ≡ 1 → bit_at word slot ≡ 1 }
 {
     word & (word - 1)
-}
-
-/// The slots whose bits are 1.
-pub(crate) fn slots_of(word: u64) -> SlotSet
-    requires { (slot : ℕ) → bit_at word slot ≡ 1 → slot < MOST_SLOTS }
-    ensures { (slot : ℕ) → has_slot result slot ≡ (bit_at word slot == 1) }
-{
-    let mut slots = SlotSet::empty();
-    'slots: for slot in 0..MOST_SLOTS {
-        if !is_clear(word, slot) {
-            slots = slots.with(slot);
-        }
-    }
-    slots
 }

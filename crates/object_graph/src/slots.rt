@@ -1,5 +1,6 @@
 //! Sets of slots.
 ghost use Rattle.std.specs.Prelude.{◌≡◌, ℕ, ◌<◌, ◌^◌, ◌↔◌, ◌==◌, ◌||◌, ◌&&◌, false, not, IfNone, IfSome, IsTrue};
+ghost use Rattle.std.specs.Int.{bit_at};
 ghost use Rattle.object_graph.specs.Slots.{has_slot};
 
 use crate::limits::MOST_SLOTS;
@@ -31,6 +32,15 @@ impl SlotSet {
         ensures none { (s : ℕ) → has_slot result s ≡ false }
     {
         SlotSet { bits: 0 }
+    }
+
+    /// The slots whose bits are 1 in a word.
+    pub fn of_bits(bits: u64) -> SlotSet
+        requires { (s : ℕ) → bit_at bits s ≡ 1 → s < MOST_SLOTS }
+        ensures value { result ≡ bits }
+        ensures slots { (s : ℕ) → has_slot result s ≡ (bit_at bits s == 1) }
+    {
+        SlotSet { bits }
     }
 
     /// Whether the slot is in the set.

@@ -23,7 +23,7 @@ pages-preserved c =
       looks = looks_then c.args.seat.now c.pages.seat c.marks-word.new.self before.looks look;
       count = (let l = before.count in let e = ap length items in let n = length-append marks in omega (arith, l, e, n));
       claims = subst (AreClaims cut claims) (sym items)
-          (claims_more cut claims marks c.slots_of.result word page before.claims before.count c.slots_of.ensures
+          (claims_more cut claims marks c.of_bits.result word page before.claims before.count c.of_bits.ensures.slots
           (λ slot. subst (λ l. times page slot l ≡ bit_at word slot) before.looks.claims (read.whole parts slot))
           (λ slot one. subst (λ k. IsMarkAt k page slot) c.requires.cut (read.sound slot one).0));
     }
