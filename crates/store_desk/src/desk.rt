@@ -17,7 +17,7 @@ use std::alloc::Global;
 use std::marker::Model;
 use std::sync::Wait;
 use std::sync::ledger::Ledger;
-use turn_lock::{Held, Seat, Turn};
+use turn_lock::{Seat, Turn, TurnGuard};
 
 /// A seat at the desk. Contracts see the core with which the desk was made, a beginning of the
 /// chronicle, which of its entries are the seat's own, and the seat's parts.
@@ -25,7 +25,7 @@ pub type DeskSeat<D> = Seat<DeskState<D>>;
 
 /// A seat at the desk that keeps its turn. Contracts see what they see of the seat, which has seen
 /// the whole chronicle.
-pub type DeskHeld<D> = Held<DeskState<D>>;
+pub type DeskGuard<D> = TurnGuard<DeskState<D>>;
 
 /// One store for many threads. Contracts see which desk it is, and the state with which it was
 /// made.
@@ -122,7 +122,7 @@ impl<D: Disk> Desk<D> {
     }
 
     /// Waits for the seat's turn, and keeps it until `leave`.
-    pub fn enter<W: Wait>(&self, rt: &W, seat: DeskSeat<D>) -> DeskHeld<D>
+    pub fn enter<W: Wait>(&self, rt: &W, seat: DeskSeat<D>) -> DeskGuard<D>
         requires own { seat.turn ≡ self.now.turn }
         ensures { TakesTurn seat result }
     {
@@ -130,32 +130,11 @@ impl<D: Disk> Desk<D> {
     }
 
     /// Ends a turn that was kept.
-    pub fn leave(&self, held: DeskHeld<D>) -> DeskSeat<D>
-        requires own { held.turn ≡ self.now.turn }
-        ensures same { result ≡ held }
+    pub fn leave(&self, guard: DeskGuard<D>) -> DeskSeat<D>
+        requires own { guard.turn ≡ self.now.turn }
+        ensures same { result ≡ guard }
     {
-        self.turn.leave(held)
-    }
-
-    /// One call of a lane in a turn that its seat keeps. It does what `call` does, without waiting.
-    pub fn call_held<L: Ledger>(
-        &self,
-        held: &mut DeskHeld<D>,
-        lane: u32,
-        call: Call,
-        steps: &mut Steps<L>,
-    ) -> Result<(Reply, u64), Memory>
-        requires own { held.old.turn ≡ self.now.turn }
-        requires taken { IsTaken call }
-        ensures { Called D.Disk held.old held.new lane call result }
-    {
-        held.with_beside(
-            steps,
-            |state, steps| -> Result<(Reply, u64), Memory>
-                requires { IsTaken call }
-                ensures { Did D.Disk state.old state.new lane call result }
-            { state.call(&(), lane, call, steps) },
-        )
+        self.turn.leave(guard)
     }
 
     /// Closes the cut, in the seat's turn. It leaves with the images and born slots that it has,
@@ -227,4 +206,23 @@ impl<D: Disk> Desk<D> {
         let Desk { turn, pages: _ } = self;
         turn.close(seat).into_parts()
     }
+}
+
+/// One call of a lane in a turn that its seat keeps. It does what `Desk::call` does, without waiting.
+pub fn call_in_turn<D: Disk, L: Ledger>(
+    guard: &mut DeskGuard<D>,
+    lane: u32,
+    call: Call,
+    steps: &mut Steps<L>,
+) -> Result<(Reply, u64), Memory>
+    requires { IsTaken call }
+    ensures { Called D.Disk guard.old guard.new lane call result }
+{
+    guard.with_beside(
+        steps,
+        |state, steps| -> Result<(Reply, u64), Memory>
+            requires { IsTaken call }
+            ensures { Did D.Disk state.old state.new lane call result }
+        { state.call(&(), lane, call, steps) },
+    )
 }

@@ -7,7 +7,7 @@ mod happening;
 mod names;
 mod state;
 
-pub use desk::{Desk, DeskHeld, DeskSeat};
+pub use desk::{Desk, DeskGuard, DeskSeat, call_in_turn};
 pub use event::{Event, Note};
 pub use names::FreedNames;
 pub use state::DeskState;

@@ -3,7 +3,7 @@ ghost use Rattle.std.specs.Prelude.{◌≡◌, ◌<◌, IfOk};
 ghost use Rattle.turn_lock.specs.Seats.{all_parts};
 ghost use Rattle.store_desk.specs.Appended.{IsTaken};
 
-use crate::{Desk, DeskHeld, DeskSeat, DeskState, Note};
+use crate::{Desk, DeskGuard, DeskSeat, DeskState, Note, call_in_turn};
 use cut_core::Core;
 use disk_trait::MemDisk;
 use object_graph::{Call, Entry, Memory, Phase, Refusal, Reply, Steps};
@@ -105,19 +105,17 @@ fn answer_over<W: Wait, L: Ledger>(
 }
 
 /// The same in a turn that is kept.
-fn answer_held<L: Ledger>(
-    desk: &Desk<MemDisk>,
-    held: &mut DeskHeld<MemDisk>,
+fn answer_in_turn<L: Ledger>(
+    guard: &mut DeskGuard<MemDisk>,
     lane: u32,
     call: Call,
     steps: &mut Steps<L>,
 ) -> Option<(Reply, u64)>
-    requires own { held.old.turn ≡ desk.now.turn }
     requires taken { IsTaken call }
-    ensures turn { held.new.turn ≡ held.old.turn }
-    ensures parts { held.new.parts ≡ held.old.parts }
+    ensures turn { guard.new.turn ≡ guard.old.turn }
+    ensures parts { guard.new.parts ≡ guard.old.parts }
 {
-    match desk.call_held(held, lane, call, steps) {
+    match call_in_turn(guard, lane, call, steps) {
         Ok(answered) => Some(answered),
         Err(_memory) => None,
     }
@@ -138,10 +136,10 @@ fn commit_in_one_turn<W: Wait, L: Ledger>(
     ensures parts { result.1.parts ≡ seat.parts }
 {
     let mut steps: Steps<L> = Steps::new(blank);
-    let mut held = desk.enter(rt, seat);
-    let _ = answer_held(desk, &mut held, 2, Call::Begin { txn: 2 }, &mut steps);
-    let done = answer_held(desk, &mut held, 2, Call::Commit { txn: 2 }, &mut steps);
-    (done, desk.leave(held))
+    let mut guard = desk.enter(rt, seat);
+    let _ = answer_in_turn(&mut guard, 2, Call::Begin { txn: 2 }, &mut steps);
+    let done = answer_in_turn(&mut guard, 2, Call::Commit { txn: 2 }, &mut steps);
+    (done, desk.leave(guard))
 }
 
 /// The number of the cut that was closed, or why none was, and the entry's place.

@@ -5,44 +5,44 @@ ghost use Rattle.store_lanes.specs.Posts.{seat_of};
 
 use disk_trait::Disk;
 use std::sync::Wait;
-use store_desk::{Desk, DeskHeld, DeskSeat};
+use store_desk::{Desk, DeskGuard, DeskSeat};
 
 /// How many calls a lane makes in one turn, at most. Then it passes the turn on.
-pub const MOST_HELD: u32 = 64;
+pub const MOST_IN_TURN: u32 = 64;
 
 /// A lane at the desk.
 pub enum Post<D: Disk> {
     /// It has no turn.
     Seated { seat: DeskSeat<D> },
     /// It keeps its turn, in which so many calls are left to it.
-    Held { held: DeskHeld<D>, left: u32 },
+    InTurn { guard: DeskGuard<D>, left: u32 },
 }
 
 impl<D: Disk> Post<D> {
     /// The lane in its turn, which it takes where it keeps none, and how many calls are left to it.
-    pub fn in_turn<W: Wait>(self, rt: &W, desk: &Desk<D>) -> (DeskHeld<D>, u32)
+    pub fn in_turn<W: Wait>(self, rt: &W, desk: &Desk<D>) -> (DeskGuard<D>, u32)
         requires own { (seat_of self).turn ≡ desk.now.turn }
         ensures { TakesTurn (seat_of self) result.0 }
     {
         match self {
-            Post::Seated { seat } => (desk.enter(rt, seat), MOST_HELD),
-            Post::Held { held, left } => (held, left),
+            Post::Seated { seat } => (desk.enter(rt, seat), MOST_IN_TURN),
+            Post::InTurn { guard, left } => (guard, left),
         }
     }
 
     /// The lane after one more call in its turn: it leaves the turn with the last call that was left.
-    pub fn after_call(desk: &Desk<D>, held: DeskHeld<D>, left: u32) -> Post<D>
-        requires own { held.turn ≡ desk.now.turn }
-        ensures { seat_of result ≡ held }
+    pub fn after_call(desk: &Desk<D>, guard: DeskGuard<D>, left: u32) -> Post<D>
+        requires own { guard.turn ≡ desk.now.turn }
+        ensures { seat_of result ≡ guard }
     {
         if left > 1 {
-            Post::Held {
-                held,
+            Post::InTurn {
+                guard,
                 left: left - 1,
             }
         } else {
             Post::Seated {
-                seat: desk.leave(held),
+                seat: desk.leave(guard),
             }
         }
     }
@@ -54,7 +54,7 @@ impl<D: Disk> Post<D> {
     {
         match self {
             Post::Seated { seat } => seat,
-            Post::Held { held, left: _ } => desk.leave(held),
+            Post::InTurn { guard, left: _ } => desk.leave(guard),
         }
     }
 }

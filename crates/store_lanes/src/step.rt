@@ -12,7 +12,7 @@ use object_graph::{Call, Memory, Steps};
 use std::marker::Brand;
 use std::sync::Wait;
 use std::sync::ledger::{Blank, Ledger};
-use store_desk::{Desk, DeskHeld, DeskSeat};
+use store_desk::{Desk, DeskGuard, DeskSeat, call_in_turn};
 use store_model::is_refused;
 
 /// One call of a lane, whose steps nobody counts. Answers whether it was done, not refused.
@@ -59,24 +59,23 @@ fn step_over<W: Wait, D: Disk, L: Ledger>(
 }
 
 /// The same in a turn that the lane keeps.
-fn step_held<D: Disk>(
+fn step_guarded<D: Disk>(
     desk: &Desk<D>,
-    held: &mut DeskHeld<D>,
+    guard: &mut DeskGuard<D>,
     lane: u32,
     call: Call,
 ) -> Result<bool, Memory>
-    requires own { held.old.turn ≡ desk.now.turn }
     requires taken { IsTaken call }
     requires plain { is_plain call ≡ true }
-    ensures ran { PartRan D.Disk desk.now.value.start lane (call ∷ []) held.old held.new result }
-    ensures same { SameSeat held.old held.new }
+    ensures ran { PartRan D.Disk desk.now.value.start lane (call ∷ []) guard.old guard.new result }
+    ensures same { SameSeat guard.old guard.new }
 {
-    step_held_over::<D, Brand>(desk, held, lane, call, Blank::new(1))
+    step_guarded_over::<D, Brand>(desk, guard, lane, call, Blank::new(1))
 }
 
-fn step_held_over<D: Disk, L: Ledger>(
+fn step_guarded_over<D: Disk, L: Ledger>(
     desk: &Desk<D>,
-    held: &mut DeskHeld<D>,
+    guard: &mut DeskGuard<D>,
     lane: u32,
     call: Call,
     blank: Blank,
@@ -84,14 +83,13 @@ fn step_held_over<D: Disk, L: Ledger>(
     requires name { blank.name ≡ L.name }
     requires parts { blank.parts ≡ L.parts }
     requires some { 0 < blank.parts }
-    requires own { held.old.turn ≡ desk.now.turn }
     requires taken { IsTaken call }
     requires plain { is_plain call ≡ true }
-    ensures ran { PartRan D.Disk desk.now.value.start lane (call ∷ []) held.old held.new result }
-    ensures same { SameSeat held.old held.new }
+    ensures ran { PartRan D.Disk desk.now.value.start lane (call ∷ []) guard.old guard.new result }
+    ensures same { SameSeat guard.old guard.new }
 {
     let mut steps: Steps<L> = Steps::new(blank);
-    match desk.call_held(held, lane, call, &mut steps) {
+    match call_in_turn(guard, lane, call, &mut steps) {
         Ok((reply, _)) => Ok(!is_refused(&reply)),
         Err(memory) => Err(memory),
     }
@@ -111,7 +109,7 @@ pub fn step_in_turn<W: Wait, D: Disk>(
     ensures ran { PartRan D.Disk desk.now.value.start lane (call ∷ []) (seat_of post) (seat_of result.0) result.1 }
     ensures same { SameSeat (seat_of post) (seat_of result.0) }
 {
-    let (mut held, left) = post.in_turn(rt, desk);
-    let done = step_held(desk, &mut held, lane, call);
-    (Post::after_call(desk, held, left), done)
+    let (mut guard, left) = post.in_turn(rt, desk);
+    let done = step_guarded(desk, &mut guard, lane, call);
+    (Post::after_call(desk, guard, left), done)
 }

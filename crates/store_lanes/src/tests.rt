@@ -86,6 +86,28 @@ fn three_lanes_meet_in_one_chronicle(rt: HostRuntime) -> Result<(), Fail> {
     Ok(())
 }
 
+/// How often an entry is of another lane than the one before it.
+fn changes_of_lane(chronicle: &[Event]) -> usize {
+    let lanes = chronicle.iter().map(|event| event.entry().lane);
+    let later = chronicle.iter().skip(1).map(|event| event.entry().lane);
+    lanes.zip(later).filter(|(lane, next)| lane != next).count()
+}
+
+#[test]
+fn a_lane_makes_its_calls_in_one_turn(rt: HostRuntime) -> Result<(), Fail> {
+    let gate = MeetGate::new(2, 10_000_000);
+    let first = b"1 begin 1\n1 abort 1\n1 begin 1\n1 abort 1\n1 begin 1\n1 abort 1\n1 begin 1\n1 abort 1\n";
+    let second = b"2 begin 2\n2 abort 2\n2 begin 2\n2 abort 2\n2 begin 2\n2 abort 2\n2 begin 2\n2 abort 2\n";
+    let mut script = Vec::new(rt.alloc());
+    script.extend_from_slice(first)?;
+    script.extend_from_slice(second)?;
+    let (whole, chronicle) = run_all(&rt, rt.alloc(), &script, 2, &gate)?;
+    assert!(rt; whole && gate.met());
+    assert_eq!(rt; chronicle.len(), 16);
+    assert_eq!(rt; changes_of_lane(&chronicle), 1);
+    Ok(())
+}
+
 /// The reply to a sweep that freed nothing.
 fn none_freed() -> Reply {
     Reply::Freed {

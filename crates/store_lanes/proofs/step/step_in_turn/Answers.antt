@@ -7,6 +7,6 @@ use Rattle.store_lanes.proofs.step.step_in_turn.Goals as goal
 
 pub returns-clause-ran : goal.returns-clause-ran
 returns-clause-ran g c =
-    let first = c.args.desk.now.value.start in let old : AtDesk g.row.D.Denot = seat_of c.args.post in let mid : AtDesk g.row.D.Denot = c.in_turn-held.result.0 in let new : AtDesk g.row.D.Denot = c.step_held-done.new.held in
-    subst (λ (s : AtDesk g.row.D.Denot). PartRan g.D.Disk first c.args.lane (c.args.call ∷ []) old s c.step_held-done.result) (sym c.after_call.ensures)
-    (part_then g.D.Disk first c.args.lane old mid new [] (c.args.call ∷ []) c.step_held-done.result (part_waited g.D.Disk first c.args.lane old mid c.in_turn-held.ensures) c.step_held-done.ensures.ran)
+    let first = c.args.desk.now.value.start in let old : AtDesk g.row.D.Denot = seat_of c.args.post in let mid : AtDesk g.row.D.Denot = c.in_turn-guard.result.0 in let new : AtDesk g.row.D.Denot = c.step_guarded-done.new.guard in
+    subst (λ (s : AtDesk g.row.D.Denot). PartRan g.D.Disk first c.args.lane (c.args.call ∷ []) old s c.step_guarded-done.result) (sym c.after_call.ensures)
+    (part_then g.D.Disk first c.args.lane old mid new [] (c.args.call ∷ []) c.step_guarded-done.result (part_waited g.D.Disk first c.args.lane old mid c.in_turn-guard.ensures) c.step_guarded-done.ensures.ran)

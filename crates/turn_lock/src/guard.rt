@@ -12,25 +12,25 @@ use std::marker::Model;
 /// A seat whose turn is served, with the value: it keeps its turn over several calls. For contracts
 /// it is the seat, which has seen the whole list. It can't be dropped, since the others wait until
 /// its turn is left.
-pub struct Held<T: Kept> {
+pub struct TurnGuard<T: Kept> {
     pub(crate) place: Place<T>,
     pub(crate) value: T,
     // How many entries there were as the turn began.
     pub(crate) before: u64,
 }
 
-impl<T: Kept> Model for Held<T> {
+impl<T: Kept> Model for TurnGuard<T> {
     ghost use Rattle.turn_lock.specs.Seats.{Known, in_turn};
     ghost use Rattle.turn_lock.specs.Turns.{HasValue};
 
     ghost Value = { Known T.Item T.Start };
 
-    ghost view = { λ h. in_turn h.place.table_id h.place.me.0 (T.list h.value) };
+    ghost view = { λ g. in_turn g.place.table_id g.place.me.0 (T.list g.value) };
 
-    ghost invariant = { λ h. HasValue h.place.me (T.list h.value) (T.start h.value) h.before };
+    ghost invariant = { λ g. HasValue g.place.me (T.list g.value) (T.start g.value) g.before };
 }
 
-impl<T: Kept> Held<T> {
+impl<T: Kept> TurnGuard<T> {
     /// Calls with the value, and answers what the call answered. It doesn't wait.
     pub fn with<R, F: FnOnce(&mut T) -> R>(&mut self, call: F) -> R
         requires may { (x : T) → HasAtHand (T.list x) (T.start x) self.old → FnOnceTakesAtMut F.FnOnce call x }

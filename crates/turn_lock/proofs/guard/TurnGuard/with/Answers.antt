@@ -1,7 +1,7 @@
 use Rattle.std.proofs.Common.{ap, subst, ◌∙◌}
 use Rattle.turn_lock.specs.Seats.{HasAtHand, grown}
 use Rattle.turn_lock.proofs.Holding.{holds_now, value_kept, turn_grown}
-use Rattle.turn_lock.proofs.held.Held.with.Goals as goal
+use Rattle.turn_lock.proofs.guard.TurnGuard.with.Goals as goal
 
 pub invariant_of-self : goal.invariant_of-self
 invariant_of-self g c = let x = c.self.inside.value in let y = c.called.new.value in let list = g.T.Kept.list in let start = g.T.Kept.start in
