@@ -26,9 +26,12 @@ pub enum MarkFault {
     Memory,
 }
 
-/// How many places a worker takes at most in the first round. The number doubles from round to round, so
-/// that a round which begins with one place is soon spread, and a chain needs few rounds.
+/// How many places each of several workers takes at most in the first round. The number grows from round
+/// to round, so that a round which begins with one place is soon spread, and a chain needs few rounds.
 const FIRST_QUOTA: u64 = 256;
+
+/// How many times as much a quota is as that of the round before.
+const GROWTH: u64 = 8;
 
 /// Marks the root where it is in use.
 fn claim_root(table: &MarkTable, cut: &ClosedCut, seat: &mut MarkSeat)
@@ -72,13 +75,24 @@ fn next_round<R: Threads + Sync, G: Gate>(
     Ok(true)
 }
 
-/// Twice as much, as far as a quota goes.
-fn doubled(quota: u64) -> u64
+/// The quota of the first round. One worker has nobody to share with.
+fn first_quota(workers: u32) -> u64
+    ensures { result ≤ MOST_QUOTA }
+{
+    if workers == 1 {
+        MOST_QUOTA
+    } else {
+        FIRST_QUOTA
+    }
+}
+
+/// The quota of the round after one with this quota.
+fn next_quota(quota: u64) -> u64
     requires { quota ≤ MOST_QUOTA }
     ensures { result ≤ MOST_QUOTA }
 {
-    if quota < MOST_QUOTA / 2 {
-        2 * quota
+    if quota < MOST_QUOTA / GROWTH {
+        GROWTH * quota
     } else {
         MOST_QUOTA
     }
@@ -101,7 +115,7 @@ fn mark_all<R: Threads + Sync, G: Gate>(
     ensures exact { IfOk result (λ marks. AreMarks (cut_starts cut.now) cut.now.pages (marks_of marks.items)) }
 {
     let mut list = Vec::new(alloc);
-    let mut quota = FIRST_QUOTA;
+    let mut quota = first_quota(workers);
     'rounds: loop {
         let again = next_round(
             threads, alloc, gate, table, cut, seat, &mut list, workers, quota,
@@ -109,7 +123,7 @@ fn mark_all<R: Threads + Sync, G: Gate>(
         if !again {
             return read_marks(alloc, table, cut, seat);
         }
-        quota = doubled(quota);
+        quota = next_quota(quota);
     }
 }
 
