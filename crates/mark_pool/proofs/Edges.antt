@@ -1,5 +1,5 @@
 -- Marks along edges, and when the claims are exactly the marks.
-use Rattle.std.proofs.Common.{◌≡◌, ℕ, ◌<◌, ◌≤◌, ◌==◌, true, false, ◌&&◌, Some, List, [], ◌∷◌, length, refl, sym, subst, ap, ◌∙◌, inl, inr, arith}
+use Rattle.std.proofs.Common.{◌≡◌, ℕ, ◌<◌, ◌≤◌, ◌==◌, Bool, true, false, ◌&&◌, Some, List, [], ◌∷◌, length, refl, sym, subst, ap, ◌∙◌, inl, inr, arith}
 use Rattle.std.specs.List.{list_any}
 use mathlib.Core.Logic.{dite}
 use native.Mathlib.Decide.{ℕ_discrete}
@@ -16,7 +16,7 @@ use Rattle.object_graph.proofs.Members.{In, any_in, in_any}
 use Rattle.object_graph.proofs.Paths.{has_object_in, has_name_in, name_eq_same, name_eq_refl, path_first, reached_more}
 use Rattle.store_model.specs.Images.{object_in}
 use Rattle.store_model.proofs.Committed.{path_last}
-use Rattle.page_image.specs.Pages.{slot_at}
+use Rattle.page_image.specs.Pages.{IsPage, slot_at}
 use Rattle.cut_model.specs.CutPages.{cut_graph}
 use Rattle.cut_model.specs.Doomed.{AreMarks}
 use Rattle.cut_builder.specs.CutParts.{ClosedParts, cut_starts, marks_of, page_in_cut, image_of, as_page, HasOneNameEach}
@@ -24,7 +24,7 @@ use Rattle.mark_pool.specs.declared.place.Place.{Place}
 use Rattle.mark_pool.specs.Edges.{place, IsMarkAt, IsEdge}
 use Rattle.mark_pool.specs.Marks.{times}
 use Rattle.mark_pool.specs.Walks.{IsTarget, AreMarked, IsFollowed, AreClosedOn, ClaimsRoot, AreClaims}
-use Rattle.mark_pool.proofs.Images.{IsAtPlace, at_place, in_graph, on_page}
+use Rattle.mark_pool.proofs.Images.{IsAtPlace, at_place, in_graph, on_page, slot_is, free_refers_to_none}
 
 -- the object from which an edge goes
 record HasReference (cut : ClosedParts) (source target : NameParts) : Type 0 where
@@ -72,11 +72,15 @@ edge_of cut page slot which slots to within image used target =
     }
 
 -- the targets of a marked object are marks
+-- the targets of what is in a slot at a mark are marks
 pub targets_are_marked : (cut : ClosedParts) (page slot which : ℕ) (slots : List SlotParts) → HasOneNameEach cut.pages → page < length cut.pages
-    → image_of (page_in_cut cut.pages page) which ≡ Some slots → (slot_at (as_page page slots) slot).in_use ≡ true → IsMarkAt cut page slot
+    → image_of (page_in_cut cut.pages page) which ≡ Some slots → IsPage (as_page page slots) → IsMarkAt cut page slot
     → AreMarked cut (slot_at (as_page page slots) slot).refs
-targets_are_marked cut page slot which slots names within image used mark to target =
-    mark_along cut page slot (place to.page to.slot) names mark (edge_of cut page slot which slots to within image used target)
+targets_are_marked cut page slot which slots names within image is mark to target = by_use (slot_at (as_page page slots) slot).in_use refl
+  where
+    by_use : (used : Bool) → (slot_at (as_page page slots) slot).in_use ≡ used → IsMarkAt cut to.page to.slot
+    by_use true used = mark_along cut page slot (place to.page to.slot) names mark (edge_of cut page slot which slots to within image used target)
+    by_use false free = let none = free_refers_to_none (slot_at (as_page page slots) slot) to (slot_is (as_page page slots) slot is) free in let set = target.refers_to in cc
 
 follow_which : (cut : ClosedParts) (page slot : ℕ) (seen : List Place) → IsFollowed cut page slot 0 seen → IsFollowed cut page slot 1 seen → IsFollowed cut page slot 2 seen
     → (which : ℕ) → which < 3 → IsFollowed cut page slot which seen

@@ -1,6 +1,7 @@
 -- Where the objects of a cut's graph stand in its images.
 use Rattle.std.proofs.Common.{◌≡◌, ℕ, ◌<◌, ◌==◌, Bool, true, false, ◌||◌, ◌&&◌, if◌then◌else◌, Option, Some, None, List, ◌++◌, length, get_or, refl, sym, subst, ap, ◌∙◌, inl, inr, arith}
 use Rattle.std.specs.Option.{option_map}
+use Rattle.std.specs.List.{list_any}
 use mathlib.Core.Logic.{dite}
 use native.Mathlib.Decide.{ℕ_discrete}
 use Rattle.std.proofs.lemmas.Bool.{and_parts, and_from, or_cases, eqb-true, eq-eqb, cases_lt}
@@ -9,14 +10,15 @@ use Rattle.object_graph.specs.NameParts.{NameParts}
 use Rattle.object_graph.specs.SlotParts.{SlotParts}
 use Rattle.object_graph.specs.Slots.{below}
 use Rattle.object_graph.specs.ObjectParts.{ObjectParts}
-use Rattle.object_graph.specs.Graphs.{has_object}
+use Rattle.object_graph.specs.Graphs.{has_object, is_to}
 use Rattle.object_graph.proofs.Members.{In, append_right, or_left, or_right}
 use Rattle.object_graph.proofs.Paths.{has_object_in, in_has_object, name_of}
 use Rattle.store_model.specs.Images.{no_slot, object_in, objects_of}
 use Rattle.store_model.proofs.Cuts.{below_bound}
 use Rattle.store_model.proofs.Flats.{in_flat, in_objects_of, objects_of_in}
-use Rattle.page_image.specs.Slots.{fresh_slot}
-use Rattle.page_image.specs.Pages.{PageParts, slot_at, object_at, page_has_name}
+use Rattle.page_image.specs.Slots.{fresh_slot, IsSlot}
+use Rattle.page_image.specs.Pages.{PageParts, IsPage, slot_at, page_has_name}
+use Rattle.page_image.proofs.Again.{whole_at}
 use Rattle.cut_model.specs.CutPages.{CopyParts, AfterImage, CutPage, images_of_before, images_of_copy, images_of_after, images_of, objects_on, cut_graph}
 use Rattle.cut_model.proofs.CutGraphs.{in_cut_graph}
 use Rattle.cut_builder.specs.CutParts.{page_in_cut, before_of, image_of, as_page}
@@ -183,11 +185,18 @@ pub some_image : (image : Option (List SlotParts)) (page : ℕ) (p : PageParts) 
 some_image None page p e = cc
 some_image (Some slots) page p e = (slots, refl, let q : as_page page slots ≡ p = cc in q)
 
-object_if : (page slot : ℕ) (s : SlotParts) (o : ObjectParts) (used : Bool) → s.in_use ≡ used
-    → (if used then Some (record { name = record { page = page; slot = slot; generation = s.generation }; number = s.number; refs = s.refs }) else None) ≡ Some o
-    → (s.in_use ≡ true) × (s.refs ≡ o.refs)
-object_if page slot s o false e h = cc
-object_if page slot s o true e h = (e, let q : record { name = record { page = page; slot = slot; generation = s.generation }; number = s.number; refs = s.refs } ≡ o = cc in ap (λ (x : ObjectParts). x.refs) q)
+-- ---- the references of a slot
 
-pub object_there : (p : PageParts) (slot : ℕ) (o : ObjectParts) → object_at p slot ≡ Some o → ((slot_at p slot).in_use ≡ true) × ((slot_at p slot).refs ≡ o.refs)
-object_there p slot o h = object_if p.number slot (slot_at p slot) o (slot_at p slot).in_use refl h
+fresh_is_slot : IsSlot fresh_slot
+fresh_is_slot = record { used = λ e. cc; free = λ e. (refl, refl); count = refl; refs = (tt, (tt, (tt, (tt, tt)))) }
+
+-- each slot of a page, and each past its last, is one that slots are
+pub slot_is : (p : PageParts) (slot : ℕ) → IsPage p → IsSlot (slot_at p slot)
+slot_is p slot page = elim (cases_lt slot (length p.slots)) [
+  | inl lt ↦ (whole_at p.slots slot fresh_slot page.slots lt).slot
+  | inr ge ↦ subst IsSlot (sym (get_or_past p.slots slot fresh_slot ge)) fresh_is_slot
+]
+
+-- where nothing is in use, no reference is set
+pub free_refers_to_none : (s : SlotParts) (to : NameParts) → IsSlot s → s.in_use ≡ false → list_any (is_to to) s.refs ≡ false
+free_refers_to_none s to is free = ap (list_any (is_to to)) (is.free free).1

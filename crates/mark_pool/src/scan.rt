@@ -3,6 +3,7 @@ ghost use Rattle.std.specs.Prelude.{◌≡◌, ℕ, ◌<◌, ◌||◌, true, len
 ghost use Rattle.std.specs.List.{All};
 ghost use Rattle.object_graph.specs.NameParts.{NameParts};
 ghost use Rattle.object_graph.specs.Graphs.{has_object, is_to};
+ghost use Rattle.page_image.specs.Pages.{slot_at};
 ghost use Rattle.cut_model.specs.CutPages.{cut_graph};
 ghost use Rattle.cut_builder.specs.CutParts.{page_in_cut, image_of, HasOneNameEach};
 ghost use Rattle.mark_pool.specs.Edges.{IsMarkAt};
@@ -14,7 +15,8 @@ use crate::place::Place;
 use crate::table::{MarkSeat, MarkTable};
 use crate::words::is_clear;
 use cut_builder::ClosedCut;
-use object_graph::{MOST_SLOTS, Name};
+use object_graph::{MOST_SLOTS, Name, OBJECT_FIELDS};
+use page_image::Page;
 
 /// Whether a name is in use in an image of its page.
 #[inline(always)]
@@ -114,29 +116,31 @@ fn follow(
     }
 }
 
-/// Marks the targets of references.
+/// Marks the targets of the references in a slot of an image.
 #[inline(always)]
 fn follow_all(
     table: &MarkTable,
     cut: &ClosedCut,
     seat: &mut MarkSeat,
     list: &mut Vec<Place>,
-    refs: &[Option<Name>],
+    image: &Page,
+    slot: u16,
 )
     requires cut { table.now.cut ≡ cut.now }
     requires own { IsSeatOf table.now seat.old }
-    requires marked { AreMarked cut.now refs.now }
+    requires marked { AreMarked cut.now (slot_at image.now slot).refs }
     requires listed { All (IsListed cut.now) list.old.items }
     ensures more { MarksMore seat.old seat.new }
-    ensures seen { AreSeen cut.now refs.now seat.new.seen }
+    ensures seen { AreSeen cut.now (slot_at image.now slot).refs seat.new.seen }
     ensures listed { All (IsListed cut.now) list.new.items }
 {
-    'refs: for target in refs {
-        follow(table, cut, seat, list, target);
+    image.is_page();
+    'fields: for field in 0..OBJECT_FIELDS as u32 {
+        follow(table, cut, seat, list, &image.reference(slot, field));
     }
 }
 
-/// Marks the targets of the object at a place, in one image of its page.
+/// Marks the targets of what is at a place, in one image of its page.
 #[inline(always)]
 fn follow_image(
     table: &MarkTable,
@@ -158,10 +162,8 @@ fn follow_image(
     let Some(image) = cut.image(at.page, which) else {
         return;
     };
-    let Some(object) = image.object(at.slot) else {
-        return;
-    };
-    follow_all(table, cut, seat, list, &object.refs);
+    image.is_page();
+    follow_all(table, cut, seat, list, image, at.slot);
 }
 
 /// Marks all targets of a place that the seat took, and says that it is scanned.

@@ -6,7 +6,7 @@ use Rattle.std.specs.Int.{w64, to_be_bytes}
 use Rattle.std.specs.List.{flat_map, AllByRecursion}
 use Rattle.std.proofs.Math.Seq.{drop-append-add}
 use Rattle.std.proofs.lemmas.Bool.{cases_lt, and_parts, ltb-true, lt-ltb, le-ltb}
-use Rattle.std.proofs.lemmas.List.{append-nil, map-append, length-map, length-append, length-set, get_or_append_left, get_or_at, get_or_past, take-append-le, drop-append-le, drop_all, drop-drop, take_at, length-take-le, replicate-append-replicate}
+use Rattle.std.proofs.lemmas.List.{append-nil, map-append, length-map, length-append, length-set, get_or_append_left, get_or_at, get_or_past, take-append-le, drop-append-le, drop_all, drop-drop, take_at, length-take-le, replicate-append-replicate, get_or-replicate}
 use Rattle.object_graph.specs.NameParts.{NameParts}
 use Rattle.object_graph.specs.SlotParts.{SlotParts}
 use Rattle.object_graph.specs.Slots.{below}
@@ -16,7 +16,7 @@ use Rattle.object_graph.specs.declared.sizes.TheConstants.{SLOTS_PER_PAGE}
 use Rattle.page_image.specs.Slots.{IsWholeSlot, IsReference, fresh_slot, taken, freed, slot_with_number, slot_with_ref, has_room}
 use Rattle.page_image.specs.Pages.{PageParts, IsPage, IsFull, IsFirstWithRoom, slot_at, with_slot, empty_page}
 use Rattle.page_image.specs.Spelling.{reference_number, state_byte, slot_bytes, header_bytes, page_bytes, AreBytes}
-use Rattle.page_image.specs.Fields.{first_wrong, header_fields, slot_fields, fields_of_slot, slot_of, slot_piece, slot_start, page_of, page_at, page_fields, says_in_use}
+use Rattle.page_image.specs.Fields.{first_wrong, header_fields, slot_fields, fields_of_slot, slot_of, slot_piece, slot_start, page_of, page_at, page_fields, says_in_use, reference_of, number_in_bytes}
 use Rattle.page_image.specs.Images.{page_said, IsImage, overwritten}
 use Rattle.page_image.proofs.Tables.{right_at, slot_right-back, page_at-read, first_wrong-front, first_wrong-back}
 use Rattle.page_image.proofs.Right.{slot_right, slot_fits, header_number}
@@ -329,3 +329,28 @@ slot_taken_written bytes out page n generation is view among left stored written
 pub state_is : (b : Bool) → bool_byte b ≡ state_byte b
 state_is true = refl
 state_is false = refl
+
+-- ---- a reference by its number
+
+-- the reference in a field is what stands at its offset, and is none or a name
+pub reference_there : (bytes : List ℕ) (field : ℕ) → field < OBJECT_FIELDS
+    → get_or (slot_of bytes).refs field None ≡ reference_of (number_in_bytes w64 bytes (16 + 8 * field))
+reference_there bytes zero h = refl
+reference_there bytes (suc zero) h = refl
+reference_there bytes (suc (suc zero)) h = refl
+reference_there bytes (suc (suc (suc zero))) h = refl
+reference_there bytes (suc (suc (suc (suc field)))) h = absurd (omega (arith, h))
+
+reference_at : (refs : List (Option NameParts)) (field : ℕ) → AllByRecursion IsReference refs → field < length refs → IsReference (get_or refs field None)
+reference_at [] field all h = absurd (omega (arith, h))
+reference_at (target ∷ refs) zero all h = all.0
+reference_at (target ∷ refs) (suc field) all h = reference_at refs field all.1 (omega (arith, h))
+
+pub reference_is : (bytes : List ℕ) (field : ℕ) → IsWholeSlot (slot_of bytes) → field < OBJECT_FIELDS → IsReference (reference_of (number_in_bytes w64 bytes (16 + 8 * field)))
+reference_is bytes field whole h =
+    let count = whole.slot.count in
+    subst IsReference (reference_there bytes field h) (reference_at (slot_of bytes).refs field whole.slot.refs (omega (arith, count, h)))
+
+-- a slot past the last has no reference
+pub no_reference : (bytes : List ℕ) (slot field : ℕ) → SLOTS_PER_PAGE ≤ slot → field < OBJECT_FIELDS → get_or (slot_at (page_said bytes) slot).refs field None ≡ None
+no_reference bytes slot field past h = ap (λ (s : SlotParts). get_or s.refs field None) (said_past bytes slot past) ∙ get_or-replicate OBJECT_FIELDS field None None h

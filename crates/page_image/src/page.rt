@@ -1,5 +1,5 @@
 //! A page as a value.
-ghost use Rattle.std.specs.Prelude.{◌≡◌, ◌<◌, ℕ, true, false, length, IfOk, IfSome, IfNone, OnErr, IfErr, Ok, Err, IsTrue, slice_index_or, ◌&&◌, ◌==◌, nat_lt};
+ghost use Rattle.std.specs.Prelude.{◌≡◌, ◌<◌, ℕ, true, false, length, IfOk, IfSome, IfNone, OnErr, IfErr, Ok, Err, None, IsTrue, slice_index_or, ◌&&◌, ◌==◌, nat_lt};
 ghost use Rattle.object_graph.specs.Slots.{has_slot};
 ghost use Rattle.std.specs.List.{AllByRecursion};
 ghost use Rattle.page_image.specs.Slots.{IsWholeSlot, fresh_slot, taken, freed, slot_with_number, slot_with_ref, has_room};
@@ -10,7 +10,7 @@ ghost use Rattle.page_image.specs.Pages.{PageParts, IsPage, empty_page, slot_at,
 
 use crate::layout::{fields, piece, slots};
 use crate::numbers::u32_at;
-use crate::read::{generation, has_room, in_use, object_in};
+use crate::read::{generation, has_room, in_use, object_in, reference_in};
 use crate::write::{put_bare, put_header, put_number, put_reference};
 use crate::wrong::first_wrong_field;
 use object_graph::{MOST_PAGES, Name, OBJECT_FIELDS, Object, SLOTS_PER_PAGE, SlotSet};
@@ -124,6 +124,18 @@ impl Page {
             return None;
         }
         object_in(self.number(), slot, piece(&self.bytes, slot))
+    }
+
+    /// A reference of the object in a slot: none where no object is there.
+    #[inline(always)]
+    pub fn reference(&self, slot: u16, field: u32) -> Option<Name>
+        requires { field < OBJECT_FIELDS }
+        ensures { result ≡ slice_index_or (slot_at self.now slot).refs field None }
+    {
+        if slot >= slots(&self.bytes) {
+            return None;
+        }
+        reference_in(piece(&self.bytes, slot), field)
     }
 
     /// Whether an object of this name is in use on the page.

@@ -1,5 +1,5 @@
 //! What the bytes of a slot say.
-ghost use Rattle.std.specs.Prelude.{◌≡◌, ◌<◌, ◌≤◌, length};
+ghost use Rattle.std.specs.Prelude.{◌≡◌, ◌<◌, ◌≤◌, None, length, slice_index_or};
 ghost use Rattle.object_graph.specs.NameParts.{IsName};
 ghost use Rattle.page_image.specs.Images.{slot_size};
 ghost use Rattle.page_image.specs.Slots.{IsWholeSlot, IsReference, has_room};
@@ -8,7 +8,7 @@ ghost use Rattle.page_image.specs.Fields.{slot_of, numbered_name, reference_of};
 
 use crate::layout::{NUMBER, REFERENCE_SIZE, REFERENCES};
 use crate::numbers::{u16_at, u64_at};
-use object_graph::{LAST_GENERATION, MOST_PAGES, MOST_SLOTS, Name, Object};
+use object_graph::{LAST_GENERATION, MOST_PAGES, MOST_SLOTS, Name, OBJECT_FIELDS, Object};
 
 /// Whether an object is in use there.
 pub(crate) fn in_use(slot: &[u8]) -> bool
@@ -57,6 +57,17 @@ fn reference_at(number: u64) -> Option<Name>
     } else {
         Some(name_at(number))
     }
+}
+
+/// A reference of a slot.
+#[inline(always)]
+pub(crate) fn reference_in(slot: &[u8], field: u32) -> Option<Name>
+    requires field { field < OBJECT_FIELDS }
+    requires long { length slot.now ≡ slot_size }
+    requires whole { IsWholeSlot (slot_of slot.now) }
+    ensures { result ≡ slice_index_or (slot_of slot.now).refs field None }
+{
+    reference_at(u64_at(slot, REFERENCES + REFERENCE_SIZE * field as usize))
 }
 
 /// The object in a slot of a page.
