@@ -96,8 +96,10 @@ fn changes_of_lane(chronicle: &[Event]) -> usize {
 #[test]
 fn a_lane_makes_its_calls_in_one_turn(rt: HostRuntime) -> Result<(), Fail> {
     let gate = MeetGate::new(2, 10_000_000);
-    let first = b"1 begin 1\n1 abort 1\n1 begin 1\n1 abort 1\n1 begin 1\n1 abort 1\n1 begin 1\n1 abort 1\n";
-    let second = b"2 begin 2\n2 abort 2\n2 begin 2\n2 abort 2\n2 begin 2\n2 abort 2\n2 begin 2\n2 abort 2\n";
+    let first =
+        b"1 begin 1\n1 abort 1\n1 begin 1\n1 abort 1\n1 begin 1\n1 abort 1\n1 begin 1\n1 abort 1\n";
+    let second =
+        b"2 begin 2\n2 abort 2\n2 begin 2\n2 abort 2\n2 begin 2\n2 abort 2\n2 begin 2\n2 abort 2\n";
     let mut script = Vec::new(rt.alloc());
     script.extend_from_slice(first)?;
     script.extend_from_slice(second)?;
