@@ -9,7 +9,7 @@ ghost use Rattle.mark_pool.specs.Unscanned.{unscanned};
 
 use crate::listing::{list_all, read_marks};
 use crate::place::Place;
-use crate::round::round;
+use crate::round::{ROOM, round};
 use crate::scan::{is_in_use, visit};
 use crate::table::{MarkSeat, MarkTable};
 use crate::work::MOST_QUOTA;
@@ -114,7 +114,7 @@ fn mark_all<R: Threads + Sync, G: Gate>(
     ensures count { IfOk result (λ marks. length marks.items ≡ length cut.now.pages) }
     ensures exact { IfOk result (λ marks. AreMarks (cut_starts cut.now) cut.now.pages (marks_of marks.items)) }
 {
-    let mut list = Vec::new(alloc);
+    let mut list = Vec::with_capacity(alloc, ROOM)?;
     let mut quota = first_quota(workers);
     'rounds: loop {
         let again = next_round(

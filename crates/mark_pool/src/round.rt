@@ -16,9 +16,8 @@ use std::alloc::Global;
 use std::thread;
 use std::thread::Threads;
 
-/// For how many places that a worker marks itself its list has room. The others wait for the next
-/// round.
-const ROOM: usize = MOST_PAGES as usize;
+/// The room of a list for places that are marked meanwhile. What finds none waits for the next round.
+pub(crate) const ROOM: usize = MOST_PAGES as usize;
 
 /// The job of one worker, with these places.
 fn job_for(
