@@ -37,7 +37,7 @@ fn start_lanes<R: Threads + Wait + Sync, D: Disk + Send, G: Gate>(
     ensures same { SameSeat seat result.0 }
 {
     match desk.reserve(rt, &mut seat, script.entries) {
-        Ok(()) => run_lanes(rt, alloc, desk, seat, gate, &script.bytes, LANES),
+        Ok(()) => run_lanes(rt, alloc, desk, seat, gate, &script.bytes),
         Err(_) => (seat, false),
     }
 }

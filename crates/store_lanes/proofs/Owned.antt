@@ -230,3 +230,21 @@ part-second w n own other xs a = part-same (own ++ other) other (n + 1) 0 (world
     ap (λ (c : Bool). c && (m.event.entry.lane == n + 1)) (has-append (0 + i) own other)
     ∙ second_only (has (0 + i) own) (has (0 + i) other) (m.event.entry.lane == n + 1) (λ h t.
     let k = a.lanes (0 + i) m h (subst (λ (j : ℕ). slice_get (world_events w xs) j ≡ Some m) (sym (zero-add i)) g) in let l = k.1 in let q = eqb-true m.event.entry.lane (n + 1) t in absurd (omega (arith, l, q))))
+
+-- lanes of which a seat owns nothing
+neither : (b c : Bool) → (b ≡ true → c ≡ true → ⊥) → (b && c) ≡ false
+neither true true never = absurd (never refl refl)
+neither true false never = refl
+neither false c never = refl
+
+pub part-beyond : (w : World) (last lane : ℕ) (own : List ℕ) (xs : List Event) → OwnsLanes w 1 last own xs → last < lane → part own lane 0 (world_events w xs) ≡ []
+part-beyond w last lane own xs o lt = part-same own [] lane 0 (world_events w xs) (λ i m g.
+    neither (has (0 + i) own) (m.event.entry.lane == lane) (λ h t.
+    let k = o.lanes (0 + i) m h (subst (λ (j : ℕ). slice_get (world_events w xs) j ≡ Some m) (sym (zero-add i)) g) in let l = k.1 in let q = eqb-true m.event.entry.lane lane t in absurd (omega (arith, l, q, lt))))
+    ∙ part-none [] lane 0 (world_events w xs) (λ p le h. absurd cc)
+
+pub owns_wider : (w : World) (last high : ℕ) (own : List ℕ) (xs : List Event) → last ≤ high → OwnsLanes w 1 last own xs → OwnsLanes w 1 high own xs
+owns_wider w last high own xs le o = record {
+  below = o.below;
+  lanes = λ p m h g. let k = o.lanes p m h g in let l = k.1 in (k.0, omega (arith, l, le));
+}

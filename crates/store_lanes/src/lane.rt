@@ -1,8 +1,9 @@
 //! One lane of a script, and all of them beside each other.
-ghost use Rattle.std.specs.Prelude.{◌≡◌, ◌≢◌, ◌<◌, ◌&&◌, [], ◌∷◌, false};
+ghost use Rattle.std.specs.Prelude.{◌≡◌, ◌≢◌, ◌<◌, ◌≤◌, ◌&&◌, [], ◌∷◌, false};
 ghost use Rattle.script_lang.specs.Script.{lines_of, SaysInLane};
 ghost use Rattle.store_model.specs.Histories.{collection};
 ghost use Rattle.script_lang.specs.declared.line.LaneLine.{LaneLine as AnyLaneLine};
+ghost use Rattle.store_lanes.specs.LaneScripts.{EndAtLane};
 ghost use Rattle.store_lanes.specs.Lanes.{IsFor, IsRun, LanesRan, LineServed, PartRan};
 ghost use Rattle.store_lanes.specs.Owned.{SameSeat};
 ghost use Rattle.store_lanes.specs.Posts.{seat_of};
@@ -140,13 +141,36 @@ fn run_lane<R: Threads + Wait + Sync, D: Disk, G: Gate>(
     (post.seated(desk), true)
 }
 
-/// Runs the lanes from the first to the last of these beside each other, each in a thread of its own
-/// (FORMATS.md, "Script lines"). A lane runs its lines in order, and passes the gate before each, with
-/// its number and the line's among its own, from 1 on; before the first line of a turn it does so
-/// without the turn, and before the others in the turn, for which the other lanes wait. Where there is
-/// no room for a call it stops. The seat is cut in parts for them, so it has more parts than there are
-/// lanes. Answers whether all came to their ends.
-pub fn run_lanes<R: Threads + Wait + Sync, D: Disk + Send, G: Gate>(
+/// The greater of a lane and the lane of a line, where there is such a lane.
+fn later_lane(last: u32, bytes: &[u8]) -> u32
+    requires { last ≤ LANES }
+    ensures within { result ≤ LANES }
+    ensures grows { last ≤ result }
+    ensures reaches { (said : AnyLaneLine) → SaysInLane bytes.now said.lane said.line → said.lane ≤ result }
+{
+    match lane_of(bytes) {
+        Some(lane) if lane <= LANES => last.max(lane),
+        _ => last,
+    }
+}
+
+/// The last lane that a line of a script is of, or 0 where there is none.
+fn last_lane(script: &[u8]) -> u32
+    ensures within { result ≤ LANES }
+    ensures last { EndAtLane result (lines_of script.now) }
+{
+    let mut last = 0;
+    let mut rest = script;
+    'lines: while let Some((bytes, after)) = next_line(rest) {
+        last = later_lane(last, bytes);
+        rest = after;
+    }
+    last
+}
+
+/// Runs the lanes from the first to the last of these beside each other, each in a thread of its own.
+/// The seat is cut in parts for them.
+fn run_lanes_to<R: Threads + Wait + Sync, D: Disk + Send, G: Gate>(
     rt: &R,
     alloc: Global,
     desk: &Desk<D>,
@@ -174,7 +198,7 @@ pub fn run_lanes<R: Threads + Wait + Sync, D: Disk + Send, G: Gate>(
         move || -> (DeskSeat<D>, bool)
             requires { (seat.turn ≡ desk.now.turn) × (seat.start ≡ desk.now.value.start ∷ []) × (seat.own ≡ []) × (fewer < seat.parts) }
             ensures { LanesRan D.Disk desk.entry.now.value.start (lines_of script.entry.now) 1 fewer result.1 result.0 × SameSeat seat result.0 }
-        { run_lanes(rt, alloc, desk, seat, gate, script, fewer) },
+        { run_lanes_to(rt, alloc, desk, seat, gate, script, fewer) },
         move || -> (DeskSeat<D>, bool)
             requires { (0 < last) × (other.turn ≡ desk.now.turn) × (other.start ≡ desk.now.value.start ∷ []) × (other.own ≡ []) }
             ensures { LanesRan D.Disk desk.entry.now.value.start (lines_of script.entry.now) last last result.1 result.0 × SameSeat other result.0 }
@@ -188,4 +212,28 @@ fn both(first: bool, second: bool) -> bool
     ensures { result ≡ (first && second) }
 {
     first && second
+}
+
+/// Runs the lanes of a script beside each other, each in a thread of its own, up to the last that has a
+/// line (FORMATS.md, "Script lines"). A lane runs its lines in order, and passes the gate before each,
+/// with its number and the line's among its own, from 1 on; before the first line of a turn it does so
+/// without the turn, and before the others in the turn, for which the other lanes wait. Where there is
+/// no room for a call it stops. The seat is cut in parts for them, so it has more parts than there are
+/// lanes. Answers whether all came to their ends.
+pub fn run_lanes<R: Threads + Wait + Sync, D: Disk + Send, G: Gate>(
+    rt: &R,
+    alloc: Global,
+    desk: &Desk<D>,
+    seat: DeskSeat<D>,
+    gate: &G,
+    script: &[u8],
+) -> (DeskSeat<D>, bool)
+    requires own { seat.turn ≡ desk.now.turn }
+    requires start { seat.start ≡ desk.now.value.start ∷ [] }
+    requires fresh { seat.own ≡ [] }
+    requires parts { LANES < seat.parts }
+    ensures ran { LanesRan D.Disk desk.now.value.start (lines_of script.now) 1 LANES result.1 result.0 }
+    ensures same { SameSeat seat result.0 }
+{
+    run_lanes_to(rt, alloc, desk, seat, gate, script, last_lane(script))
 }

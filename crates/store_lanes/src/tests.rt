@@ -1,5 +1,5 @@
 //! Small scripts of several lanes, over a store in memory.
-ghost use Rattle.std.specs.Prelude.{◌≡◌, ◌<◌, ◌∷◌, [], IfOk};
+ghost use Rattle.std.specs.Prelude.{◌≡◌, ◌∷◌, [], IfOk};
 ghost use Rattle.turn_lock.specs.Seats.{all_parts};
 
 use crate::run_lanes;
@@ -48,14 +48,11 @@ fn run_all<R: Threads + Wait + Sync, G: Gate>(
     rt: &R,
     alloc: Global,
     script: &[u8],
-    last: u32,
     gate: &G,
-) -> Result<(bool, Vec<Event>), Memory>
-    requires { last < all_parts }
-{
+) -> Result<(bool, Vec<Event>), Memory> {
     let (desk, mut seat) = fresh_desk(alloc)?;
     let room = desk.reserve(rt, &mut seat, 100);
-    let (seat, whole) = run_lanes(rt, alloc, &desk, seat, gate, script, last);
+    let (seat, whole) = run_lanes(rt, alloc, &desk, seat, gate, script);
     let (_core, chronicle) = desk.close(seat);
     room?;
     Ok((whole, chronicle))
@@ -72,7 +69,7 @@ fn are_calls(chronicle: &[Event], lane: u32, calls: &[Call]) -> bool {
 fn three_lanes_meet_in_one_chronicle(rt: HostRuntime) -> Result<(), Fail> {
     let gate = MeetGate::new(3, 10_000_000);
     let script = b"1 begin 1\n1 new 1 1\n1 commit 1\n2 begin 2\n2 abort 2\n3 collect 2\n";
-    let (whole, chronicle) = run_all(&rt, rt.alloc(), script, 3, &gate)?;
+    let (whole, chronicle) = run_all(&rt, rt.alloc(), script, &gate)?;
     assert!(rt; whole && gate.met());
     assert_eq!(rt; chronicle.len(), 13);
     let first = [
@@ -103,7 +100,7 @@ fn a_lane_makes_its_calls_in_one_turn(rt: HostRuntime) -> Result<(), Fail> {
     let mut script = Vec::new(rt.alloc());
     script.extend_from_slice(first)?;
     script.extend_from_slice(second)?;
-    let (whole, chronicle) = run_all(&rt, rt.alloc(), &script, 2, &gate)?;
+    let (whole, chronicle) = run_all(&rt, rt.alloc(), &script, &gate)?;
     assert!(rt; whole && gate.met());
     assert_eq!(rt; chronicle.len(), 16);
     assert_eq!(rt; changes_of_lane(&chronicle), 1);
@@ -120,7 +117,7 @@ fn none_freed() -> Reply {
 #[test]
 fn a_lane_collects_a_store_without_garbage(rt: HostRuntime) -> Result<(), Fail> {
     let script = b"1 begin 1\n# a note\n1 collect 1";
-    let (whole, chronicle) = run_all(&rt, rt.alloc(), script, 1, &OpenGate)?;
+    let (whole, chronicle) = run_all(&rt, rt.alloc(), script, &OpenGate)?;
     assert!(rt; whole);
     let replies = [
         Reply::Done,

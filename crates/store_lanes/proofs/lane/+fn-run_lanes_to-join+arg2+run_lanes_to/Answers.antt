@@ -9,7 +9,7 @@ use Rattle.store_desk.proofs.Crossing.{seat_send}
 use Rattle.store_lanes.specs.Lanes.{LanesRan}
 use Rattle.store_lanes.proofs.Crossing.{lanes_send}
 use Rattle.store_lanes.proofs.Going.{lanes_joined}
-use Rattle.store_lanes.proofs.lane.+fn-run_lanes-join+arg2+run_lanes.Goals as goal
+use Rattle.store_lanes.proofs.lane.+fn-run_lanes_to-join+arg2+run_lanes_to.Goals as goal
 
 pub join-seat-requires-send-F : goal.join-seat-requires-send-F
 join-seat-requires-send-F g t c κs within =

@@ -1,8 +1,0 @@
-use Rattle.std.proofs.Common.{◌+◌, ◌*◌}
-use Rattle.store_lanes.proofs.lane.+fn-run_lanes-join+arg2+run_lanes.Given as goal
-
-abbrev pub decreases-join+arg2 : goal.decreases-join+arg2
-decreases-join+arg2 g l = 2 * l.fewer + 1
-
-abbrev pub decreases-run_lanes : goal.decreases-run_lanes
-decreases-run_lanes g l = 2 * l.last
