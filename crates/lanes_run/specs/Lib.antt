@@ -1,4 +1,5 @@
 pub mod Asked
+pub mod Buffered
 pub mod Complete
 pub mod Ended
 pub mod Judged

@@ -13,7 +13,7 @@ ghost use Rattle.lanes_run.specs.Complete.{IsLaneScript};
 ghost use Rattle.lanes_run.specs.Ended.{StoreLanes};
 ghost use Rattle.lanes_run.specs.RanLanes.{RanLanes, LanesBy, is_refusing};
 
-use crate::chronicle::ENTRY_ROOM;
+use crate::chronicle::LINES_ROOM;
 use crate::reading::read_script;
 use crate::running::{nothing_done, run_script};
 use cut_core::Core;
@@ -98,7 +98,7 @@ fn open_and_run<R: Threads + Wait + Sync, D: Disk + Send, S: Source, K: Sink, G:
     ensures damage { (at : ℕ) → result.0 ≡ Status.Damaged at → IfSome (D.content disk) (λ file. HasFault file (damaged at)) }
     ensures keeps { KeepsDisk ⟦<D as Disk>⟧ disk result.1 }
 {
-    let Ok(mut buffer) = Vec::with_capacity(alloc, ENTRY_ROOM) else {
+    let Ok(mut buffer) = Vec::with_capacity(alloc, LINES_ROOM) else {
         return (Status::Memory, disk);
     };
     match Core::start(alloc, disk) {
@@ -120,7 +120,7 @@ fn read_and_run<R: Threads + Wait + Sync, D: Disk + Send, S: Source, K: Sink, G:
     sink: &mut K,
     gate: &G,
 ) -> (Status, Core<D>)
-    requires { ENTRY_ROOM ≤ vec_capacity buffer.old }
+    requires { LINES_ROOM ≤ vec_capacity buffer.old }
     ensures ran { StoreLanes D.Disk result.0 core result.1 (S.left source.old) (S.left source.new) (K.held sink.old) (K.held sink.new) }
     ensures unwritten { IsTrue (is_refusing result.0) → sink.new ≡ sink.old }
     ensures read_fault { result.0 ≡ Status.ReadFault → Rose (S.faults source.old) (S.faults source.new) }

@@ -9,7 +9,7 @@ ghost use Rattle.store_lanes.specs.Lanes.{LanesRan};
 ghost use Rattle.store_lanes.specs.Owned.{SameSeat};
 ghost use Rattle.lanes_run.specs.Ended.{LanesEnded, ended_by};
 
-use crate::chronicle::{ENTRY_ROOM, write_chronicle};
+use crate::chronicle::{LINES_ROOM, write_chronicle};
 use crate::reading::Script;
 use cut_core::Core;
 use disk_trait::{Disk, Gate, Sink};
@@ -64,7 +64,7 @@ fn run_at_desk<R: Threads + Wait + Sync, D: Disk + Send, K: Sink, G: Gate>(
     sink: &mut K,
     gate: &G,
 ) -> (Status, Core<D>)
-    requires room { ENTRY_ROOM ≤ vec_capacity buffer.old }
+    requires room { LINES_ROOM ≤ vec_capacity buffer.old }
     requires nothing_yet { desk.value.chronicle ≡ [] }
     requires seat { seat ≡ first_seat desk.turn desk.value.start [] }
     ensures ended { LanesEnded D.Disk result.0 desk.value.start result.1 (lines_of script.now.bytes.items) (K.held sink.old) (K.held sink.new) }
@@ -97,7 +97,7 @@ pub fn run_script<R: Threads + Wait + Sync, D: Disk + Send, K: Sink, G: Gate>(
     sink: &mut K,
     gate: &G,
 ) -> (Status, Core<D>)
-    requires { ENTRY_ROOM ≤ vec_capacity buffer.old }
+    requires { LINES_ROOM ≤ vec_capacity buffer.old }
     ensures ended { LanesEnded D.Disk result.0 core result.1 (lines_of script.now.bytes.items) (K.held sink.old) (K.held sink.new) }
     ensures cause { result.0 ≡ Status.WriteFault → Rose (K.faults sink.old) (K.faults sink.new) }
     ensures calm { result.0 ≢ Status.WriteFault → K.faults sink.new ≡ K.faults sink.old }

@@ -114,3 +114,26 @@ fn three_lanes_meet_and_write_one_chronicle(rt: HostRuntime) -> Result<(), Fail>
     assert_eq!(rt; text.lines().count(), 13);
     Ok(())
 }
+
+/// This text so often.
+fn repeated(alloc: Global, text: &str, count: u32) -> Result<String, Fail> {
+    let mut all = String::new(alloc);
+    for _ in 0..count {
+        all.push_str(text)?;
+    }
+    Ok(all)
+}
+
+#[test]
+fn a_long_chronicle_is_written_whole(rt: HostRuntime) -> Result<(), Fail> {
+    let script = repeated(rt.alloc(), "1 begin 1\n1 abort 1\n", 3_000)?;
+    let chronicle = repeated(rt.alloc(), "1 begin 1: ok\n1 abort 1: ok\n", 3_000)?;
+    let (status, bytes, _disk) = run_on(&rt, &script, 100_000, fresh_store(&rt)?, &OpenGate)?;
+    assert_eq!(rt; status, Status::Done);
+    assert!(rt; bytes.as_slice() == chronicle.as_bytes());
+    let (status, bytes, _disk) = run_on(&rt, &script, 70_000, fresh_store(&rt)?, &OpenGate)?;
+    assert_eq!(rt; status, Status::WriteFault);
+    assert_eq!(rt; bytes.len(), 70_000);
+    assert!(rt; chronicle.as_bytes().starts_with(&bytes));
+    Ok(())
+}
