@@ -16,7 +16,8 @@ SayInLanes (line ∷ lines) (s ∷ said) = SaysInLane line s.lane s.line × SayI
 
 -- the lines are of no lane beyond this
 abbrev pub EndAtLane : ℕ → List (List ℕ) → Type 0
-EndAtLane last lines = (said : List LaneLine) → SayInLanes lines said → AllByRecursion (λ (s : LaneLine). s.lane ≤ last) said
+EndAtLane last lines = (said : List LaneLine) → SayInLanes lines said
+    → AllByRecursion (λ (s : LaneLine). s.lane ≤ last) said
 
 -- what a line of a lane asks for, over a store of so many pages
 abbrev pub wishes_of : ℕ → Line → List Wish
