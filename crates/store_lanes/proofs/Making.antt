@@ -230,6 +230,10 @@ module _ {D : Type 0} (disks : DiskOf D) (first : Seen D) (lane : ℕ) (old new 
       let r = pages_rest f p n lt in
       subst (λ (calls : List Call). PartRan disks first lane calls old new result) r.1 (part_stopped (map f (below p) ++ f p ∷ []) r.0 result stopped q)
 
+  -- the answer as a match found it
+  pub part_answered : (calls : List Call) (result : Result Bool Memory) (b done : Bool) → result ≡ Ok b → b ≡ done → PartRan disks first lane calls old new result → PartRan disks first lane calls old new (Ok done)
+  part_answered calls result b done is test p = subst (λ (x : Bool). PartRan disks first lane calls old new (Ok x)) test (subst (λ (r : Result Bool Memory). PartRan disks first lane calls old new r) is p)
+
   pub part_none : old ≡ new → PartRan disks first lane [] old new (Ok true)
   part_none same = subst (λ (s : AtDesk D). PartRan disks first lane [] old s (Ok true)) same (record { made = []; added = added_none first.world lane old; outcome = refl; own = λ known. tt })
 

@@ -7,8 +7,10 @@ ghost use Rattle.store_desk.specs.Appended.{IsTaken};
 ghost use Rattle.store_desk.specs.Events.{HasClosing};
 ghost use Rattle.store_lanes.specs.Lanes.{PartRan, ClosingRan, MarksRan};
 ghost use Rattle.store_lanes.specs.Owned.{SameSeat};
+ghost use Rattle.store_lanes.specs.Posts.{seat_of};
 ghost use Rattle.store_lanes.specs.Served.{call_on, is_plain};
 
+use crate::post::Post;
 use crate::step::step;
 use cut_builder::{ClosedCut, MarkedCut};
 use disk_trait::{Disk, OpenGate};
@@ -33,66 +35,67 @@ pub fn collect<R: Threads + Wait + Sync, D: Disk>(
     rt: &R,
     alloc: Global,
     desk: &Desk<D>,
-    seat: &mut DeskSeat<D>,
+    post: Post<D>,
     lane: u32,
     workers: u32,
-) -> Result<bool, Memory>
-    requires own { seat.old.turn ≡ desk.now.turn }
-    requires start { seat.old.start ≡ desk.now.value.start ∷ [] }
-    ensures ran { PartRan D.Disk desk.now.value.start lane (collection desk.now.value.start.world.pages workers) seat.old seat.new result }
-    ensures same { SameSeat seat.old seat.new }
+) -> (Post<D>, Result<bool, Memory>)
+    requires own { (seat_of post).turn ≡ desk.now.turn }
+    requires start { (seat_of post).start ≡ desk.now.value.start ∷ [] }
+    ensures ran { PartRan D.Disk desk.now.value.start lane (collection desk.now.value.start.world.pages workers) (seat_of post) (seat_of result.0) result.1 }
+    ensures same { SameSeat (seat_of post) (seat_of result.0) }
 {
-    match open_and_copy(rt, desk, seat, lane) {
+    let (post, copied) = open_and_copy(rt, desk, post, lane);
+    match copied {
         Ok(true) => {}
-        Ok(false) => return Ok(false),
-        Err(memory) => return Err(memory),
+        Ok(false) => return (post, Ok(false)),
+        Err(memory) => return (post, Err(memory)),
     }
-    match close_and_mark(rt, alloc, desk, seat, lane, workers) {
-        Ok(true) => {}
-        Ok(false) => return Ok(false),
-        Err(memory) => return Err(memory),
+    let mut seat = post.seated(desk);
+    let marked = close_and_mark(rt, alloc, desk, &mut seat, lane, workers);
+    let post = Post::Seated { seat };
+    match marked {
+        Ok(true) => sweep_and_end(rt, desk, post, lane),
+        Ok(false) => (post, Ok(false)),
+        Err(memory) => (post, Err(memory)),
     }
-    sweep_and_end(rt, desk, seat, lane)
 }
 
 /// Opens a cut, and copies each page.
 fn open_and_copy<W: Wait, D: Disk>(
     rt: &W,
     desk: &Desk<D>,
-    seat: &mut DeskSeat<D>,
+    post: Post<D>,
     lane: u32,
-) -> Result<bool, Memory>
-    requires own { seat.old.turn ≡ desk.now.turn }
-    requires start { seat.old.start ≡ desk.now.value.start ∷ [] }
-    ensures ran { PartRan D.Disk desk.now.value.start lane (OpenCut ∷ map (call_on OnPage.Copy) (below desk.now.value.start.world.pages)) seat.old seat.new result }
-    ensures same { SameSeat seat.old seat.new }
+) -> (Post<D>, Result<bool, Memory>)
+    requires own { (seat_of post).turn ≡ desk.now.turn }
+    ensures ran { PartRan D.Disk desk.now.value.start lane (OpenCut ∷ map (call_on OnPage.Copy) (below desk.now.value.start.world.pages)) (seat_of post) (seat_of result.0) result.1 }
+    ensures same { SameSeat (seat_of post) (seat_of result.0) }
 {
-    match step(rt, desk, seat, lane, Call::OpenCut) {
-        Ok(true) => {}
-        Ok(false) => return Ok(false),
-        Err(memory) => return Err(memory),
+    let (post, opened) = step(rt, desk, post, lane, Call::OpenCut);
+    match opened {
+        Ok(true) => on_each_page(rt, desk, post, lane, OnPage::Copy),
+        Ok(false) => (post, Ok(false)),
+        Err(memory) => (post, Err(memory)),
     }
-    on_each_page(rt, desk, seat, lane, OnPage::Copy)
 }
 
 /// Sweeps each page, and ends the cut.
 fn sweep_and_end<W: Wait, D: Disk>(
     rt: &W,
     desk: &Desk<D>,
-    seat: &mut DeskSeat<D>,
+    post: Post<D>,
     lane: u32,
-) -> Result<bool, Memory>
-    requires own { seat.old.turn ≡ desk.now.turn }
-    requires start { seat.old.start ≡ desk.now.value.start ∷ [] }
-    ensures ran { PartRan D.Disk desk.now.value.start lane (map (call_on OnPage.Sweep) (below desk.now.value.start.world.pages) ++ EndCut ∷ []) seat.old seat.new result }
-    ensures same { SameSeat seat.old seat.new }
+) -> (Post<D>, Result<bool, Memory>)
+    requires own { (seat_of post).turn ≡ desk.now.turn }
+    ensures ran { PartRan D.Disk desk.now.value.start lane (map (call_on OnPage.Sweep) (below desk.now.value.start.world.pages) ++ EndCut ∷ []) (seat_of post) (seat_of result.0) result.1 }
+    ensures same { SameSeat (seat_of post) (seat_of result.0) }
 {
-    match on_each_page(rt, desk, seat, lane, OnPage::Sweep) {
-        Ok(true) => {}
-        Ok(false) => return Ok(false),
-        Err(memory) => return Err(memory),
+    let (post, swept) = on_each_page(rt, desk, post, lane, OnPage::Sweep);
+    match swept {
+        Ok(true) => step(rt, desk, post, lane, Call::EndCut),
+        Ok(false) => (post, Ok(false)),
+        Err(memory) => (post, Err(memory)),
     }
-    step(rt, desk, seat, lane, Call::EndCut)
 }
 
 /// The call on a page.
@@ -111,26 +114,27 @@ fn call_on(kind: OnPage, page: u32) -> Call
 fn on_each_page<W: Wait, D: Disk>(
     rt: &W,
     desk: &Desk<D>,
-    seat: &mut DeskSeat<D>,
+    mut post: Post<D>,
     lane: u32,
     kind: OnPage,
-) -> Result<bool, Memory>
-    requires own { seat.old.turn ≡ desk.now.turn }
-    requires start { seat.old.start ≡ desk.now.value.start ∷ [] }
-    ensures ran { PartRan D.Disk desk.now.value.start lane (map (call_on kind) (below desk.now.value.start.world.pages)) seat.old seat.new result }
-    ensures same { SameSeat seat.old seat.new }
+) -> (Post<D>, Result<bool, Memory>)
+    requires own { (seat_of post).turn ≡ desk.now.turn }
+    ensures ran { PartRan D.Disk desk.now.value.start lane (map (call_on kind) (below desk.now.value.start.world.pages)) (seat_of post) (seat_of result.0) result.1 }
+    ensures same { SameSeat (seat_of post) (seat_of result.0) }
 {
     let pages = desk.pages();
     let mut page: u32 = 0;
     'pages: while page < pages {
-        match step(rt, desk, seat, lane, call_on(kind, page)) {
+        let (next, done) = step(rt, desk, post, lane, call_on(kind, page));
+        post = next;
+        match done {
             Ok(true) => {}
-            Ok(false) => return Ok(false),
-            Err(memory) => return Err(memory),
+            Ok(false) => return (post, Ok(false)),
+            Err(memory) => return (post, Err(memory)),
         }
         page += 1;
     }
-    Ok(true)
+    (post, Ok(true))
 }
 
 /// Closes the cut, marks it outside the turn, and gives it its marks.

@@ -1,17 +1,16 @@
 //! One lane of a script, and all of them beside each other.
 ghost use Rattle.std.specs.Prelude.{◌≡◌, ◌≢◌, ◌<◌, ◌≤◌, ◌&&◌, [], ◌∷◌, false};
 ghost use Rattle.script_lang.specs.Script.{lines_of, SaysInLane};
-ghost use Rattle.store_model.specs.Histories.{collection};
 ghost use Rattle.script_lang.specs.declared.line.LaneLine.{LaneLine as AnyLaneLine};
 ghost use Rattle.store_lanes.specs.LaneScripts.{EndAtLane};
-ghost use Rattle.store_lanes.specs.Lanes.{IsFor, IsRun, LanesRan, LineServed, PartRan};
+ghost use Rattle.store_lanes.specs.Lanes.{IsFor, IsRun, LanesRan, LineServed};
 ghost use Rattle.store_lanes.specs.Owned.{SameSeat};
 ghost use Rattle.store_lanes.specs.Posts.{seat_of};
 ghost use Rattle.store_lanes.specs.Served.{without_bool};
 
 use crate::collect::collect;
 use crate::post::Post;
-use crate::step::step_in_turn;
+use crate::step::step;
 use disk_trait::{Disk, Gate};
 use object_graph::Memory;
 use script_lang::{LaneLine, Line, lane_of, next_line, read_lane_line};
@@ -22,26 +21,6 @@ use store_desk::{Desk, DeskSeat};
 
 /// How many lanes there are.
 pub const LANES: u32 = 16;
-
-/// A collection of a lane, which leaves its turn first: each of its calls takes a turn of its own, and
-/// marking is done outside them.
-fn collect_seated<R: Threads + Wait + Sync, D: Disk>(
-    rt: &R,
-    alloc: Global,
-    desk: &Desk<D>,
-    post: Post<D>,
-    lane: u32,
-    workers: u32,
-) -> (Post<D>, Result<bool, Memory>)
-    requires own { (seat_of post).turn ≡ desk.now.turn }
-    requires start { (seat_of post).start ≡ desk.now.value.start ∷ [] }
-    ensures ran { PartRan D.Disk desk.now.value.start lane (collection desk.now.value.start.world.pages workers) (seat_of post) (seat_of result.0) result.1 }
-    ensures same { SameSeat (seat_of post) (seat_of result.0) }
-{
-    let mut seat = post.seated(desk);
-    let ran = collect(rt, alloc, desk, &mut seat, lane, workers);
-    (Post::Seated { seat }, ran)
-}
 
 /// The calls of a line of a lane.
 fn serve<R: Threads + Wait + Sync, D: Disk>(
@@ -59,8 +38,8 @@ fn serve<R: Threads + Wait + Sync, D: Disk>(
     ensures same { SameSeat (seat_of post) (seat_of result.0) }
 {
     let ran = match line {
-        Line::One { call } => step_in_turn(rt, desk, post, lane, call),
-        Line::Collect { workers } => collect_seated(rt, alloc, desk, post, lane, workers),
+        Line::One { call } => step(rt, desk, post, lane, call),
+        Line::Collect { workers } => collect(rt, alloc, desk, post, lane, workers),
         Line::Note => unreachable!(),
     };
     without_value(ran)

@@ -7,7 +7,7 @@ mod post;
 mod step;
 
 pub use lane::{LANES, run_lanes};
-pub use post::MOST_IN_TURN;
+pub use post::{DISK_CALL, MOST_IN_TURN};
 
 #[cfg(test)]
 mod tests;

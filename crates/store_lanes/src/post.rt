@@ -4,11 +4,24 @@ ghost use Rattle.turn_lock.specs.Seats.{TakesTurn};
 ghost use Rattle.store_lanes.specs.Posts.{seat_of};
 
 use disk_trait::Disk;
+use object_graph::Call;
 use std::sync::Wait;
 use store_desk::{Desk, DeskGuard, DeskSeat};
 
-/// How many calls a lane makes in one turn, at most. Then it passes the turn on.
-pub const MOST_IN_TURN: u32 = 64;
+/// How many calls a lane makes in one turn, at most, where none waits for the disk. Then it passes the
+/// turn on.
+pub const MOST_IN_TURN: u32 = 4_096;
+
+/// As many calls a call counts that may wait for the disk.
+pub const DISK_CALL: u32 = 64;
+
+/// As how many calls a call counts in a turn.
+pub fn weight(call: &Call) -> u32 {
+    match call {
+        Call::Commit { .. } | Call::Sweep { .. } => DISK_CALL,
+        _ => 1,
+    }
+}
 
 /// A lane at the desk.
 pub enum Post<D: Disk> {
@@ -30,16 +43,13 @@ impl<D: Disk> Post<D> {
         }
     }
 
-    /// The lane after one more call in its turn: it leaves the turn with the last call that was left.
+    /// The lane after a call in its turn, in which so many are left to it: it leaves the turn where none is.
     pub fn after_call(desk: &Desk<D>, guard: DeskGuard<D>, left: u32) -> Post<D>
         requires own { guard.turn ≡ desk.now.turn }
         ensures { seat_of result ≡ guard }
     {
-        if left > 1 {
-            Post::InTurn {
-                guard,
-                left: left - 1,
-            }
+        if left > 0 {
+            Post::InTurn { guard, left }
         } else {
             Post::Seated {
                 seat: desk.leave(guard),

@@ -107,6 +107,25 @@ fn a_lane_makes_its_calls_in_one_turn(rt: HostRuntime) -> Result<(), Fail> {
     Ok(())
 }
 
+#[test]
+fn a_lane_opens_a_cut_and_copies_in_one_turn(rt: HostRuntime) -> Result<(), Fail> {
+    let gate = MeetGate::new(2, 10_000_000);
+    let script = b"1 collect 1\n2 collect 1\n";
+    let (whole, chronicle) = run_all(&rt, rt.alloc(), script, &gate)?;
+    assert!(rt; whole && gate.met());
+    let calls = [
+        Call::OpenCut,
+        Call::Copy { page: 0 },
+        Call::Copy { page: 1 },
+    ];
+    let first = chronicle.iter().take(3).map(|event| event.entry().call);
+    assert!(rt; first.eq(calls));
+    let opened_by = chronicle.first().map(|event| event.entry().lane);
+    let mut copied_by = chronicle.iter().take(3).map(|event| event.entry().lane);
+    assert!(rt; copied_by.all(|lane| Some(lane) == opened_by));
+    Ok(())
+}
+
 /// The reply to a sweep that freed nothing.
 fn none_freed() -> Reply {
     Reply::Freed {

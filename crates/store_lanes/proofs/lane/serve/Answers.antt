@@ -18,9 +18,9 @@ returns-clause-served g c =
     let old : AtDesk g.row.D.Denot = seat_of c.args.post in
     let all : LineServed g.D.Disk first c.args.lane c.args.line old (seat_of c.match-line.ran.0) (without_bool c.match-line.ran.1) = elim c.match-line.branch [
       | in-One w ↦ line_served g.D.Disk first c.args.lane old (seat_of c.match-line.ran.0) c.args.line (w.in-One.call ∷ []) c.match-line.ran.1 (ap (wishes_of first.world.pages) w.in-One.is)
-          (subst (λ (r : Post g.row.D.Denot × Result Bool Memory). PartRan g.D.Disk first c.args.lane (w.in-One.call ∷ []) old (seat_of r.0) r.1) (sym w.ran-is) w.step_in_turn-ran.ensures.ran)
+          (subst (λ (r : Post g.row.D.Denot × Result Bool Memory). PartRan g.D.Disk first c.args.lane (w.in-One.call ∷ []) old (seat_of r.0) r.1) (sym w.ran-is) w.step-ran.ensures.ran)
       | in-Collect w ↦ line_served g.D.Disk first c.args.lane old (seat_of c.match-line.ran.0) c.args.line (collection first.world.pages w.in-Collect.workers) c.match-line.ran.1 (ap (wishes_of first.world.pages) w.in-Collect.is)
-          (subst (λ (r : Post g.row.D.Denot × Result Bool Memory). PartRan g.D.Disk first c.args.lane (collection first.world.pages w.in-Collect.workers) old (seat_of r.0) r.1) (sym w.ran-is) w.collect_seated-ran.ensures.ran)
+          (subst (λ (r : Post g.row.D.Denot × Result Bool Memory). PartRan g.D.Disk first c.args.lane (collection first.world.pages w.in-Collect.workers) old (seat_of r.0) r.1) (sym w.ran-is) w.collect-ran.ensures.ran)
     ] in
     subst (λ (p : Post g.row.D.Denot). LineServed g.D.Disk first c.args.lane c.args.line old (seat_of p) c.without_value.result.1) (sym c.without_value.ensures.post)
     (subst (λ (r : Result (Unit {0}) Memory). LineServed g.D.Disk first c.args.lane c.args.line old (seat_of c.match-line.ran.0) r) (sym c.without_value.ensures.result) all)

@@ -1,6 +1,6 @@
 use Rattle.std.proofs.Common.{[], ◌∷◌, not, ap}
 use Rattle.store_lanes.proofs.Making.{no_room, part_done}
-use Rattle.store_lanes.proofs.step.step_guarded_over.Goals as goal
+use Rattle.store_lanes.proofs.step.step_in_turn_over.Goals as goal
 
 pub returns-in-Ok-clause-ran : goal.returns-in-Ok-clause-ran
 returns-in-Ok-clause-ran g c =

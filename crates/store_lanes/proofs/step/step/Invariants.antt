@@ -1,4 +1,0 @@
-use Rattle.store_lanes.proofs.step.step.Given as goal
-
-abbrev pub ghosts-step_over : goal.ghosts-step_over
-ghosts-step_over g a = record { name = a.blank.name; parts = a.blank.parts }
