@@ -12,10 +12,10 @@ use store_desk::{Desk, DeskGuard, DeskSeat};
 /// turn on.
 pub const MOST_IN_TURN: u32 = 4_096;
 
-/// As many calls a call counts that may wait for the disk.
+/// A call that may wait for the disk counts as so many.
 pub const DISK_CALL: u32 = 64;
 
-/// As how many calls a call counts in a turn.
+/// How many calls a call counts as in a turn.
 pub fn weight(call: &Call) -> u32 {
     match call {
         Call::Commit { .. } | Call::Sweep { .. } => DISK_CALL,

@@ -1,4 +1,4 @@
-use Rattle.std.proofs.Common.{◌++◌, true, false, Bool, List, sym, subst}
+use Rattle.std.proofs.Common.{◌++◌, true, false, Bool, List, subst}
 use Rattle.std.specs.Prelude.{Result, Ok, Err}
 use Rattle.object_graph.specs.declared.calls.Call.{Call}
 use Rattle.object_graph.specs.declared.memory.Memory.{Memory}
